@@ -1,0 +1,4 @@
+pub mod Motions
+pub mod Positions
+pub mod UpperProtocols
+pub mod Laws

@@ -1,0 +1,4 @@
+// Hexadecimal, there and back.
+pub mod decode;
+pub mod encode;
+pub mod number;

@@ -1,0 +1,3 @@
+// The lines of standard input.
+pub mod answer;
+pub mod line;

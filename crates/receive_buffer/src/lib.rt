@@ -1,0 +1,4 @@
+// The buffer that the radio fills with what it received.
+pub mod buffer;
+#[cfg(test)]
+mod tests;

@@ -1,0 +1,4 @@
+pub mod Chain
+pub mod Cutting
+pub mod Parsed
+pub mod Worded

@@ -1,0 +1,6 @@
+use mathlib.Core.Path.{_∙_}
+use Rattle.request.proofs.Parsed.{unsigned-read}
+use Rattle.request.proofs.numbers.u8_in.Needs as need
+
+pub returns : need.returns
+returns c = c .ok .ensures .value ∙ unsigned-read 8 (c .args .text .now) _ (c .parse .ensures .reads .0)

@@ -1,0 +1,3 @@
+// Lifetimes and timestamps.
+pub mod lifetime;
+pub mod timestamp;

@@ -358,8 +358,12 @@ fn put_fault(random: &mut Random, octets: &mut Vec<u8>, kind: Kind, number: u8) 
         7 => put_wrong_hops(random, octets, kind),
         8 => octets[2] = random.below(4) as u8,
         9 => {
+            // A packet that an earlier fault has cut short may lack its last coordinate.
             let (place, bound) = random.pick(&kind.coordinate_places());
-            set_coordinate(octets, place, random.pick(&outer_coordinates(bound)));
+            let value = random.pick(&outer_coordinates(bound));
+            if octets.len() >= place + 4 {
+                set_coordinate(octets, place, value);
+            }
         }
         other => unreachable!("the reader has no refusal {other}"),
     }

@@ -17,7 +17,7 @@ use Rattle.std.proofs.shelf.Digits.{number-more, number-push}
 use Rattle.std.proofs.shelf.Lists.{getD-drop, length-append, length-take-le, append-assoc, set-at, drop-more, take-append-drop, length-push, take-more, take-at, drop-at, drop-drop, drop-append-le}
 use Rattle.std.proofs.shelf.Tests.{le-ltb, cond-false}
 use Rattle.std.specs.shelf.Digits.{number}
-use Rattle.octets.specs.Laws.{Read-written, Written-read}
+use Rattle.octets.specs.Laws.{Read-written, Written-read, One-octet}
 use Rattle.octets.specs.Wire.{fieldAt, octetsOf, placed, putAt, unsigned}
 
 -- one octet more
@@ -89,6 +89,9 @@ part-placed at w part o h e =
 
 pub read-written : Read-written
 read-written w at n o h k = ap (number 256) (part-placed at w (octetsOf w n) o (omega arith) (length-octets w n)) ∙ number-octets w n k
+
+pub one-octet : One-octet
+one-octet at o h = wider o at 0 (omega arith) ∙ rw add-zero (omega arith)
 
 pub written-read : Written-read
 unfolding placed

@@ -10,7 +10,7 @@ use crate::samples::{
 
 const TABLE_SEED: u64 = 2026;
 
-/// Packets that were made by another implementation of the format.
+/// Packets that were put together field by field, not by this program.
 const KNOWN: [&str; 5] = [
     "1100500100100080000001003c00446d57113cad525c11dd18d40888fd2e7910ffe900e6",
     "1100500120500200000301003c00446d57113cad525c11dd18d40888fd2e7910ffe900e600000000c0ffee",
@@ -78,7 +78,7 @@ impl Table {
     }
 
     fn known(&mut self) {
-        self.group("packets of another implementation");
+        self.group("packets put together field by field");
         self.lines.extend(KNOWN.map(String::from));
     }
 

@@ -1,5 +1,5 @@
-//! Tests of whole lines, with packets that were made by another
-//! implementation of the format and answers that were worked out by hand.
+//! Tests of whole lines, with packets that were put together
+//! field by field and answers that were worked out by hand.
 
 use crate::packet::{lifetime_ms, Kind};
 use crate::random::Random;

@@ -1,17 +1,14 @@
 -- The narrow fields there and back. Assumes nothing.
 use mathlib.Core.Bool.{Bool, true, false, cond, _&&_}
-use mathlib.Core.Logic.{_⊎_, inl, inr}
-use mathlib.Core.Path.{_≡_, refl, sym, ap, subst, _∙_}
-use Prim.Native.Nat.{ℕ, zero, suc, _+_, _%_, _^_, _<_}
+use mathlib.Core.Logic.{inl, inr}
+use mathlib.Core.Path.{_≡_, refl, ap, subst, _∙_}
+use Prim.Native.Nat.{ℕ, zero, suc, _+_, _%_, _<_}
 use native.Mathlib.Omega.{arith}
-use lib.Dec.{leb, ltb, eqb}
-use lib.IntN.{ℤ}
-use lib.Signed.{mag}
+use lib.Dec.{leb, eqb}
 use Rattle.std.proofs.shelf.Tests.{le-leb, lt-leb, leb-true, leb-false, cond-both, and-parts, cases-lt, eqb-true}
-use Rattle.octets.proofs.Signs.{signed-unsigned, unsigned-signed, unsigned-small, mag-signed}
+use Rattle.octets.proofs.Signs.{signed-unsigned, unsigned-signed, unsigned-small}
 use Rattle.octets.specs.Wire.{signed, unsigned}
 use Rattle.fields.specs.Laws.{Motion-read, Motion-written, Upper-read, Upper-written}
-use Rattle.fields.specs.Motions.{accurateIn, speedIn, motionBits}
 use Rattle.fields.specs.UpperProtocols.{upperOf, upperNumber}
 use Rattle.fields.specs.declared.upper_protocol.UpperProtocol.the-variants.{Any, BtpA, BtpB, Ipv6, Reserved4, Reserved5, Reserved6, Reserved7, Reserved8, Reserved9, Reserved10, Reserved11, Reserved12, Reserved13, Reserved14, Reserved15}
 

@@ -21,6 +21,6 @@ speedIn bits = signed 14 (bits % 32768)
 abbrev pub motionBits : Bool → ℤ → ℕ
 motionBits accurate speed = cond accurate 32768 0 + unsigned 14 speed
 
--- the motion of a flag and a speed from -16,384 to 16,383
+-- the motion of a flag and a speed from -16,384 to 16,383: `mag` is n both for n and for -(n + 1)
 abbrev pub motionFrom : Bool → ℤ → Option Motion
 motionFrom accurate speed = cond (ltb (mag speed) 16384) (Some (record { bits = motionBits accurate speed })) None

@@ -1,13 +1,13 @@
 -- The octet for a remaining time, by one test over the 256 octets that antt computes. Assumes nothing.
-use mathlib.Core.Bool.{Bool, true, false, not, _&&_, _||_}
-use mathlib.Core.Logic.{_⊎_, inl, inr}
+use mathlib.Core.Bool.{Bool, true, not, _&&_, _||_}
+use mathlib.Core.Logic.{inl, inr}
 use mathlib.Core.Path.{_≡_, refl, sym, ap, _∙_, subst}
 use native.Mathlib.Nat.{mul-div-cancel}
 use Rattle.times.proofs.Longest.{unit-positive}
-use Prim.Native.Nat.{ℕ, zero, suc, _+_, _*_, _/_, _%_, _<_, _≤_}
+use Prim.Native.Nat.{ℕ, zero, suc, _*_, _/_, _%_, _<_, _≤_}
 use native.Mathlib.Omega.{arith}
 use lib.Dec.{leb, ltb, eqb, lit<, lit≤}
-use Rattle.std.proofs.shelf.Tests.{and-parts, cases-lt, leb-true, ltb-true, eqb-true, or-cases, not-true, leb-false}
+use Rattle.std.proofs.shelf.Tests.{and-parts, cases-lt, leb-true}
 use Rattle.std.proofs.shelf.Ways.{tells}
 use Rattle.times.specs.Lifetimes.{unitOf, lifetimeOf, NoWorse, Best}
 

@@ -1,5 +1,5 @@
 -- One law over the width of a field: the facts that every read and every write rests on. Assumes nothing.
-use mathlib.Core.Path.{_≡_, refl, sym, ap, _∙_, subst}
+use mathlib.Core.Path.{_≡_, refl, sym, ap, _∙_}
 use mathlib.Core.List.{List, [], _∷_, _++_}
 use Prim.Native.Nat.{ℕ, zero, suc, _+_, _-_, _*_, _/_, _%_, _^_, _<_, _≤_}
 use native.Mathlib.Nat.{pow-suc, pow-le-pow-right, lt-of-lt-of-le, add-zero}
@@ -8,17 +8,14 @@ use native.Mathlib.Omega.{arith}
 use borrow.Rule.Slice.PartMut.{putMid}
 use lib.Arith.{digits-lt}
 use lib.Dec.{ltb, lit<}
-use lib.IntN.{ℤ, pos, negsuc}
-use mir.Val.{ofZ}
-use mir.Syntax.{w32}
 use lib.ListN.{length, take, drop, getD, set, length-drop}
 use Rattle.std.proofs.shelf.Bits.{shr-shr, div-mul-add, mod-mul-add, div-add-mod', div-below}
 use Rattle.std.proofs.shelf.Digits.{number-more, number-push}
-use Rattle.std.proofs.shelf.Lists.{getD-drop, length-append, length-take-le, append-assoc, set-at, drop-more, take-append-drop, length-push, take-more, take-at, drop-at, drop-drop, drop-append-le}
+use Rattle.std.proofs.shelf.Lists.{getD-drop, length-append, length-take-le, append-assoc, set-at, drop-more, take-append-drop, length-push, take-more, take-at, drop-at, drop-drop}
 use Rattle.std.proofs.shelf.Tests.{le-ltb, cond-false}
 use Rattle.std.specs.shelf.Digits.{number}
 use Rattle.octets.specs.Laws.{Read-written, Written-read, One-octet}
-use Rattle.octets.specs.Wire.{fieldAt, octetsOf, placed, putAt, unsigned}
+use Rattle.octets.specs.Wire.{fieldAt, octetsOf, placed, putAt}
 
 -- one octet more
 pub one-more : (i n d : ℕ) → n < 256 ^ i → d < 256 → n * 256 + d < 256 ^ (i + 1)
@@ -134,15 +131,6 @@ put-after w at n xs ys o s t e f p q =
 -- and the end of one
 pub put-all : (w at : ℕ) (part o t : List ℕ) → t ≡ placed at part o → at + w ≤ length o → t ≡ putAt w at part o
 put-all w at part o t e h = e ∙ sym (put-placed w at part o h)
-
--- the library's two's complement at 32 bits is this one
-pub ofZ-is : (z : ℤ) → ofZ w32 z ≡ unsigned 31 z
-ofZ-is (pos n) = refl
-ofZ-is (negsuc n) = refl
-
--- where the next part of a chain begins
-pub next-at : (at w n : ℕ) (xs : List ℕ) (k : ℕ) → length xs ≡ k → at + (k + w) ≡ at + length (xs ++ octetsOf w n)
-next-at at w n xs k e = ap (λ m. at + m) (sym (length-append xs (octetsOf w n) ∙ rw (length-octets w n, e) refl))
 
 -- what a copy into a part of the octets leaves
 pub placed-mid : (at k : ℕ) (o xs ys : List ℕ) → xs ≡ ys → k ≡ length ys → putMid at k o xs ≡ placed at ys o

@@ -1,7 +1,5 @@
--- Why a packet is refused: the number and the words. Assumes nothing.
-use mathlib.Core.List.{List}
+-- Why a packet is refused: the number of each reason. Assumes nothing.
 use Prim.Native.Nat.{ℕ}
-use lib.Chars.{codes}
 use Rattle.outcomes.specs.declared.reason.Reason.{Reason}
 use Rattle.outcomes.specs.declared.reason.Reason.the-variants.{Size, Version, NextHeader, UnknownKind, PayloadLength, HopLimits, Lifetime, Coordinate, PayloadLimit}
 

@@ -1,7 +1,7 @@
 // A refusal: its number, the place of the octet at fault, and the reason in words.
 ghost use mathlib.Core.Path.{_≡_};
 ghost use Rattle.octets.specs.Faults.{octetNumber};
-ghost use Rattle.packets.specs.Faults.{headerNumber, headerPlace, writeNumber};
+ghost use Rattle.packets.specs.Faults.{headerNumber, headerPlace, writeNumber, writePlace};
 ghost use Rattle.outcomes.specs.Reasons.{reasonNumber};
 use crate::reason::Reason;
 use crate::reason::ReasonDisplay;
@@ -28,10 +28,10 @@ impl Refusal {
         }
     }
 
-    // The refusal of a packet that was not written: no octet is at fault.
+    // The refusal of a packet that was not written.
     pub fn of_writer(fault: &WriteFault) -> Refusal
         ensures number { λ r. ⌜ reasonNumber (r .reason) ≡ writeNumber (now (fault .entry)) ⌝ }
-        ensures place { λ r. ⌜ r .place ≡ 0 ⌝ }
+        ensures place { λ r. ⌜ r .place ≡ writePlace (now (fault .entry)) ⌝ }
     {
         let reason = match fault {
             WriteFault::HopLimit => Reason::HopLimits,
@@ -39,7 +39,10 @@ impl Refusal {
             WriteFault::Position => Reason::Coordinate,
             WriteFault::Payload => Reason::PayloadLimit,
         };
-        Refusal { reason, place: 0 }
+        Refusal {
+            reason,
+            place: fault.place(),
+        }
     }
 
     pub fn number(&self) -> u8

@@ -1,9 +1,10 @@
 -- The first twelve octets. Assumes nothing.
 use mathlib.Core.Bool.{Bool, cond, not, _&&_, _||_}
-use mathlib.Core.List.{List, [], _∷_}
-use Prim.Native.Nat.{ℕ, _*_, _/_, _%_}
+use mathlib.Core.List.{List, [], _∷_, _++_}
+use Prim.Native.Nat.{ℕ, _*_, _/_}
 use lib.Dec.{leb, eqb}
 use lib.ListN.{getD}
+use Rattle.octets.specs.Wire.{octetsOf}
 use Rattle.fields.specs.UpperProtocols.{upperOf, upperNumber}
 use Rattle.packets.specs.Kinds.{kindOctet, oneHop}
 use Rattle.packets.specs.declared.common.CommonHeader.{CommonHeader}
@@ -25,11 +26,14 @@ commonOf o =
       mobile = leb 128 (octet 7 o);
     }
 
--- the first twelve octets of a packet of a kind with so many octets of payload; version and next header are 1
+-- the octets before the payload length, of a packet of a kind; version and next header are 1
+abbrev pub frontOctets : Kind → CommonHeader → List ℕ
+frontOctets k c =
+    17 ∷ 0 ∷ c .lifetime .octet ∷ c .«remaining_hop_limit» ∷ upperNumber (c .«upper_protocol») * 16 ∷ kindOctet k ∷ c .«traffic_class» .octet ∷ cond (c .mobile) 128 0 ∷ []
+
+-- the first twelve octets, with so many octets of payload to come
 abbrev pub commonOctets : Kind → ℕ → CommonHeader → List ℕ
-commonOctets k payload c =
-    17 ∷ 0 ∷ c .lifetime .octet ∷ c .«remaining_hop_limit» ∷ upperNumber (c .«upper_protocol») * 16 ∷ kindOctet k ∷ c .«traffic_class» .octet ∷ cond (c .mobile) 128 0 ∷
-    payload / 256 ∷ payload % 256 ∷ c .«maximum_hop_limit» ∷ 0 ∷ []
+commonOctets k payload c = frontOctets k c ++ octetsOf 2 payload ++ (c .«maximum_hop_limit» ∷ 0 ∷ [])
 
 -- the remaining hop limit is at least 1 and at most the maximum, and 1 for the kinds that go one hop
 abbrev pub hopLimitsFit : Kind → CommonHeader → Bool

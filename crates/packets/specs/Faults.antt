@@ -35,6 +35,10 @@ writeNumber write.Lifetime = 8
 writeNumber write.Position = 9
 writeNumber write.Payload = 12
 
+-- there is no octet at fault yet
+abbrev pub writePlace : WriteFault → ℕ
+writePlace f = 0
+
 -- an answer of the octet layer, as the packet layer passes it up
 abbrev pub passed : {X : Type 0} → Result X OctetFault → Result X HeaderFault
 passed (Ok x) = Ok x

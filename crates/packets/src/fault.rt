@@ -1,6 +1,6 @@
 // Why octets are not a packet, and why a packet is not written.
 ghost use mathlib.Core.Path.{_≡_};
-ghost use Rattle.packets.specs.Faults.{headerNumber, headerPlace, writeNumber};
+ghost use Rattle.packets.specs.Faults.{headerNumber, headerPlace, writeNumber, writePlace};
 ghost use Rattle.packets.specs.declared.fault.HeaderFault.the-variants.{Octets};
 use octets::fault::OctetFault;
 use octets::fault::OctetFaultDebug;
@@ -53,8 +53,8 @@ impl HeaderFault {
 pub impl From<OctetFault> for HeaderFault as HeaderFaultFromOctets {
     ghost converts = { λ f r. r ≡ Octets f };
 
-    fn from(f: OctetFault) -> HeaderFault {
-        HeaderFault::Octets(f)
+    fn from(fault: OctetFault) -> HeaderFault {
+        HeaderFault::Octets(fault)
     }
 }
 
@@ -67,7 +67,7 @@ pub enum WriteFault {
 }
 
 impl WriteFault {
-    // The number of the refusal. No octet is at fault, so its place is 0.
+    // The number of the refusal.
     pub fn number(&self) -> u8
         ensures { λ r. ⌜ r ≡ writeNumber (now (self .entry)) ⌝ }
     {
@@ -77,5 +77,12 @@ impl WriteFault {
             WriteFault::Position => 9,
             WriteFault::Payload => 12,
         }
+    }
+
+    // There is no octet at fault yet.
+    pub fn place(&self) -> usize
+        ensures { λ r. ⌜ r ≡ writePlace (now (self .entry)) ⌝ }
+    {
+        0
     }
 }

@@ -1,11 +1,10 @@
 -- The words of a line, one after another. Assumes nothing.
 use mathlib.Core.List.{List, [], _∷_}
 use mathlib.Core.Logic.{inl, inr}
-use mathlib.Core.Path.{_≡_, refl, sym}
+use mathlib.Core.Path.{_≡_, refl}
 use Prim.Native.Nat.{ℕ}
-use Rattle.std.specs.declared.result.Result.{Result}
 use Rattle.std.specs.declared.result.Result.the-variants.{Ok, Err}
-use Rattle.request.specs.Requests.{Takes, Meaningless, AnswersOctets, Begins, Follows, Stops, Requested}
+use Rattle.request.specs.Requests.{Takes, AnswersOctets, Begins, Follows, Stops, Requested}
 use Rattle.request.specs.declared.asked.Request.{Request}
 use Rattle.request.specs.declared.fault.RequestFault.{RequestFault}
 use Rattle.request.specs.declared.fault.RequestFault.the-variants.{NotUnderstood, NoMemory}

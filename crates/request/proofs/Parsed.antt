@@ -1,9 +1,8 @@
 -- What `parse` answers, as a function of the text. Assumes nothing.
-use mathlib.Core.Bool.{Bool, true, false, cond, _&&_}
+use mathlib.Core.Bool.{Bool, true, false, cond}
 use mathlib.Core.List.{List}
 use mathlib.Core.Path.{_≡_, refl, sym, ap, _∙_}
-use Prim.Native.Nat.{ℕ, _<_, _≤_, _^_}
-use native.Mathlib.Omega.{arith}
+use Prim.Native.Nat.{ℕ, _^_}
 use lib.Dec.{leb, ltb}
 use lib.IntN.{ℤ}
 use lib.ListN.{length}
@@ -15,9 +14,8 @@ use Rattle.std.proofs.shelf.Tests.{leb-true, le-leb, cond-true}
 use Rattle.std.proofs.shelf.Ways.{decides-and, decides-ltb, decides-like}
 use Rattle.std.specs.Numbers.{Converted}
 use Rattle.std.specs.Orderings.{Decides}
-use Rattle.std.specs.Reads.{Digits, Numeral, ReadsUnsigned, ReadsSigned, value, afterPlus, afterSign, signedValue}
+use Rattle.std.specs.Reads.{Numeral, ReadsUnsigned, ReadsSigned, value, afterPlus, afterSign, signedValue}
 use Rattle.std.specs.Results.{okPart}
-use Rattle.std.specs.declared.option.Option.{Option}
 use Rattle.std.specs.declared.option.Option.the-variants.{Some, None}
 use Rattle.std.specs.declared.result.Result.{Result}
 use Rattle.std.specs.declared.result.Result.the-variants.{Ok, Err}

@@ -3,7 +3,7 @@ use mathlib.Core.Bool.{false, cond}
 use mathlib.Core.List.{List}
 use Prim.Native.Nat.{ℕ}
 use lib.Dec.{ltb}
-use lib.IntN.{ℤ, pos}
+use lib.IntN.{pos}
 use Rattle.std.specs.Options.{mapped}
 use Rattle.std.specs.declared.option.Option.{Option}
 use Rattle.std.specs.declared.option.Option.the-variants.{Some, None}
@@ -49,16 +49,16 @@ noFields =
       media = 0;
     }
 
--- a header with one field of its own
-abbrev pub commonOf : ℕ → ℕ → ℕ → CommonHeader → CommonHeader
-commonOf lifetime remaining maximum c =
+-- a header with these limits, and all else as it was
+abbrev pub limitedTo : ℕ → ℕ → ℕ → CommonHeader → CommonHeader
+limitedTo lifetime remaining maximum c =
     record { lifetime = record { octet = lifetime }; «remaining_hop_limit» = remaining; «maximum_hop_limit» = maximum; «upper_protocol» = c .«upper_protocol»; «traffic_class» = c .«traffic_class»; mobile = c .mobile }
 
 -- the first twelve octets, with one field set to what a text says
 abbrev pub commonWith : CommonField → List ℕ → CommonHeader → Option CommonHeader
-commonWith commons.Lifetime text c = mapped (λ n. commonOf n (c .«remaining_hop_limit») (c .«maximum_hop_limit») c) (unsignedIn 8 text)
-commonWith commons.RemainingHopLimit text c = mapped (λ n. commonOf (c .lifetime .octet) n (c .«maximum_hop_limit») c) (unsignedIn 8 text)
-commonWith commons.MaximumHopLimit text c = mapped (λ n. commonOf (c .lifetime .octet) (c .«remaining_hop_limit») n c) (unsignedIn 8 text)
+commonWith commons.Lifetime text c = mapped (λ n. limitedTo n (c .«remaining_hop_limit») (c .«maximum_hop_limit») c) (unsignedIn 8 text)
+commonWith commons.RemainingHopLimit text c = mapped (λ n. limitedTo (c .lifetime .octet) n (c .«maximum_hop_limit») c) (unsignedIn 8 text)
+commonWith commons.MaximumHopLimit text c = mapped (λ n. limitedTo (c .lifetime .octet) (c .«remaining_hop_limit») n c) (unsignedIn 8 text)
 commonWith commons.TrafficClass text c =
     mapped (λ n. record { lifetime = c .lifetime; «remaining_hop_limit» = c .«remaining_hop_limit»; «maximum_hop_limit» = c .«maximum_hop_limit»; «upper_protocol» = c .«upper_protocol»; «traffic_class» = record { octet = n }; mobile = c .mobile }) (unsignedIn 8 text)
 commonWith commons.UpperProtocol text c =

@@ -1,7 +1,7 @@
 -- Numbers as they are written in a request. Assumes nothing.
 use mathlib.Core.Bool.{Bool, true, false, cond, _&&_}
-use mathlib.Core.List.{List, [], _∷_}
-use Prim.Native.Nat.{ℕ, _+_, _*_, _^_}
+use mathlib.Core.List.{List}
+use Prim.Native.Nat.{ℕ, _^_}
 use lib.Dec.{leb, ltb, eqb}
 use lib.IntN.{ℤ}
 use lib.ListN.{length}
@@ -10,7 +10,6 @@ use Rattle.std.specs.Reads.{value, afterPlus, afterSign, signedValue}
 use Rattle.std.specs.declared.option.Option.{Option}
 use Rattle.std.specs.declared.option.Option.the-variants.{Some, None}
 use Rattle.std.specs.shelf.Text.{allDigits}
-use Rattle.hex.specs.Hex.{digitOf}
 
 -- one value after another: the first that is missing is the answer
 abbrev pub andThen : {X Y : Type 0} → Option X → (X → Option Y) → Option Y

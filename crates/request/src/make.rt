@@ -2,10 +2,13 @@
 ghost use mathlib.Core.Bool.{cond};
 ghost use mathlib.Core.Path.{_≡_};
 ghost use Prim.Native.Nat.{_≤_};
+ghost use lib.ListN.{take};
 ghost use Rattle.std.specs.Results.{isOk};
 ghost use Rattle.std.specs.Vec.{made};
+ghost use Rattle.std.specs.declared.result.Result.the-variants.{Ok};
 ghost use Rattle.octets.specs.Wire.{placed};
 ghost use Rattle.packets.specs.Contents.{content};
+ghost use Rattle.packets.specs.Reading.{reading};
 ghost use Rattle.packets.specs.Writing.{wire, writing};
 ghost use Rattle.request.specs.Asked.{packetOf};
 ghost use Rattle.request.specs.Requests.{packetIn};
@@ -19,17 +22,18 @@ use packets::headers::SingleHopHeader;
 use packets::headers::UnicastHeader;
 use packets::kind::Kind;
 use packets::packet::Packet;
-use writer::write::write;
+use roundtrip::trips::write_readable;
 
 // Writes the packet that was asked for over the front of the buffer, and answers how many octets it has; or the first
-// refusal that fits, and then the whole buffer stays.
+// refusal that fits, and then the whole buffer stays. What was written is read as the packet that was asked for.
 pub fn write_request(request: &Request, buffer: &mut [u8; 1458]) -> Result<usize, WriteFault>
     ensures value { λ r. ⌜ r ≡ writing (packetIn (now (request .entry))) ⌝ }
     ensures after { λ r. ⌜ now (buffer .exit) ≡ cond (isOk r) (placed 0 (wire (packetIn (now (request .entry)))) (now (buffer .entry))) (now (buffer .entry)) ⌝ }
     ensures bound { λ r. ⌜ made r (λ count. count ≤ 1458) ⌝ }
+    ensures again { λ r. ⌜ made r (λ count. reading (take count (now (buffer .exit))) ≡ Ok (packetIn (now (request .entry)))) ⌝ }
 {
     let asked = packet(request.kind, &request.fields, request.payload.as_slice());
-    write(&asked, buffer)
+    write_readable(&asked, buffer)
 }
 
 // The packet of this kind, from the fields that the kind has.

@@ -1,10 +1,9 @@
 -- The two ways, from what the reader and the writer promise. Assumes nothing.
 use mathlib.Core.List.{List}
 use mathlib.Core.Path.{_≡_, refl, sym, ap, _∙_}
-use Prim.Native.Nat.{ℕ, _+_, _-_}
+use Prim.Native.Nat.{ℕ, _+_}
 use native.Mathlib.Omega.{arith}
-use borrow.Rule.Slice.PartMut.{midOf}
-use lib.ListN.{length}
+use lib.ListN.{length, take}
 use Rattle.std.specs.declared.result.Result.{Result}
 use Rattle.std.specs.declared.result.Result.the-variants.{Ok, Err}
 use Rattle.octets.proofs.Width.{part-placed}
@@ -14,7 +13,6 @@ use Rattle.packets.specs.Contents.{Content, kindIn}
 use Rattle.packets.specs.Kinds.{headersOf}
 use Rattle.packets.specs.Reading.{reading}
 use Rattle.packets.specs.Writing.{checked, writing, wire}
-use Rattle.packets.specs.declared.fault.HeaderFault.{HeaderFault}
 use Rattle.packets.specs.declared.fault.WriteFault.{WriteFault}
 use Rattle.roundtrip.proofs.Here.{Octets}
 use Rattle.roundtrip.proofs.Read.{read-written, wire-long}
@@ -51,16 +49,9 @@ check-passed : {E : Type 0} (r : Result (Unit {0}) E) (n m : ℕ) → Ok m ≡ a
 check-passed (Ok x) n m e = (refl, same-answer m n e)
 check-passed (Err f) n m e = absurd (refused-or-not f m (sym e))
 
--- the front of the buffer, read again
-pub front-read : (c : Content) (n : ℕ) (before after : List ℕ) → Fits (c .header) → Ok n ≡ writing c → after ≡ placed 0 (wire c) before → reading (midOf 0 (n - 0) after) ≡ Ok c
+-- the front of the buffer is read as the packet that was written there
+pub front-read : (c : Content) (n : ℕ) (before after : List ℕ) → Fits (c .header) → Ok n ≡ writing c → after ≡ placed 0 (wire c) before → reading (take n after) ≡ Ok c
 front-read c n before after f w a =
     let p = check-passed (checked c) _ n w in
-    let long : length (wire c) ≡ n - 0 = wire-long c ∙ omega (arith, p .1) in
-    ap (λ o. reading (midOf 0 (n - 0) o)) a ∙ ap reading (part-placed 0 (n - 0) (wire c) before (omega arith) long) ∙ read-written c f (p .0)
-
--- so it is read, and as the same packet
-pub same-packet : (c d : Content) (n : ℕ) (after : List ℕ) → reading (midOf 0 (n - 0) after) ≡ Ok c → Ok d ≡ reading (midOf 0 (n - 0) after) → d ≡ c
-same-packet c d n after e g = same-answer d c (g ∙ e)
-
-pub never-faulty : (c : Content) (f : HeaderFault) (n : ℕ) (after : List ℕ) → reading (midOf 0 (n - 0) after) ≡ Ok c → Err f ≡ reading (midOf 0 (n - 0) after) → ⊥
-never-faulty c f n after e g = refused-or-not f c (g ∙ e)
+    let long : length (wire c) ≡ n = wire-long c ∙ sym (p .1) in
+    ap (λ o. reading (take n o)) a ∙ ap reading (part-placed 0 n (wire c) before (omega arith) long) ∙ read-written c f (p .0)

@@ -1,7 +1,7 @@
 -- What was read stands where it was read. Assumes nothing.
 use mathlib.Core.Bool.{true}
-use mathlib.Core.List.{List, _++_}
-use mathlib.Core.Path.{_≡_, refl, sym, ap, subst, _∙_}
+use mathlib.Core.List.{List}
+use mathlib.Core.Path.{_≡_, refl}
 use Prim.Native.Nat.{ℕ, _+_, _-_, _<_, _≤_, _^_}
 use native.Mathlib.Omega.{arith}
 use lib.Dec.{ltb, leb}
@@ -12,7 +12,7 @@ use Rattle.std.specs.Vec.{made}
 use Rattle.std.specs.declared.result.Result.the-variants.{Ok}
 use Rattle.octets.proofs.Signs.{unsigned-signed}
 use Rattle.octets.proofs.Width.{field-small}
-use Rattle.octets.specs.Faults.{andThen, roomAt, readAt, signedAt, coordinateAt}
+use Rattle.octets.specs.Faults.{roomAt, readAt, signedAt, coordinateAt}
 use Rattle.octets.specs.Wire.{fieldAt, octetsOf, signed, unsigned}
 use Rattle.octets.specs.declared.fault.OctetFault.the-variants.{Missing, OutOfRange}
 use Rattle.fields.specs.Positions.{onEarth, positionAt, positionOctets}

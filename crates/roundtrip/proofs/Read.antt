@@ -10,23 +10,24 @@ use Rattle.std.proofs.shelf.Lists.{length-append, drop-at}
 use Rattle.std.proofs.shelf.Tests.{le-ltb, eq-eqb}
 use Rattle.std.specs.declared.option.Option.the-variants.{Some}
 use Rattle.std.specs.declared.result.Result.the-variants.{Ok}
-use Rattle.octets.specs.Wire.{fieldAt}
+use Rattle.octets.proofs.Width.{number-octets}
+use Rattle.octets.specs.Wire.{octetsOf}
 use Rattle.fields.proofs.Narrow.{upper-read}
 use Rattle.fields.specs.UpperProtocols.{upperOf, upperNumber}
 use Rattle.fields.specs.declared.upper_protocol.UpperProtocol.{UpperProtocol}
 use Rattle.packets.specs.Common.{commonOf, commonOctets}
-use Rattle.packets.specs.Contents.{Header, Content, kindIn, commonIn}
+use Rattle.packets.specs.Contents.{Content, kindIn, commonIn}
 use Rattle.packets.specs.Kinds.{kindOf, kindOctet, headersOf, payloadLimit}
-use Rattle.packets.specs.Reading.{framing, lengths, limits, headerAt, reading, payloadLength}
+use Rattle.packets.specs.Reading.{framing, lengths, limits, headerAt, payloadLength}
 use Rattle.packets.specs.Writing.{extendedOctets, wire}
 use Rattle.packets.specs.declared.common.CommonHeader.{CommonHeader}
 use Rattle.packets.specs.declared.kind.Kind.{Kind}
 use Rattle.packets.specs.declared.kind.Kind.the-variants.{Beacon, Unicast, Anycast, Broadcast, SingleHop, MultiHop}
 use Rattle.writer.proofs.Spans.{headers-long, extended-long}
-use Rattle.roundtrip.proofs.Checked.{Accepted, accepted}
+use Rattle.roundtrip.proofs.Checked.{accepted}
 use Rattle.roundtrip.proofs.Stands.{Stands}
 use Rattle.roundtrip.proofs.There.{header-read}
-use Rattle.roundtrip.specs.Trips.{Fits, Read-written}
+use Rattle.roundtrip.specs.Trips.{Read-written}
 
 kind-read : (k : Kind) → kindOf (kindOctet k) ≡ Some k
 kind-read Beacon = refl
@@ -53,9 +54,11 @@ upper-shift : (u : UpperProtocol) → upperOf (upperNumber u * 16 / 16) ≡ u
 upper-shift u = let e : upperNumber u * 16 / 16 ≡ upperNumber u = omega arith in ap upperOf e ∙ upper-read u
 
 common-read : (k : Kind) (n : ℕ) (c : CommonHeader) (rest : List ℕ) → commonOf (commonOctets k n c ++ rest) ≡ c
+unfolding octetsOf
 common-read k n c rest = rw (flag-read (c .mobile), upper-shift (c .«upper_protocol»))
 
 framing-read : (k : Kind) (n : ℕ) (c : CommonHeader) (rest : List ℕ) → length (commonOctets k n c ++ rest) ≤ 1458 → framing (commonOctets k n c ++ rest) ≡ Ok k
+unfolding octetsOf
 framing-read k n c rest h =
     let o = commonOctets k n c ++ rest in
     let enough : 12 ≤ length o = omega (arith, length-append (commonOctets k n c) rest) in
@@ -73,18 +76,20 @@ wire-long c =
 
 -- the extended header stands behind the first twelve octets
 extended-stands : (c : Content) → Stands (headersOf (kindIn (c .header)) - 12) 12 (extendedOctets (c .header)) (wire c)
+unfolding octetsOf
 extended-stands c =
     let h = c .header in
     let p = c .payload in
     let C = commonOctets (kindIn h) (length p) (commonIn h) in
     let span = headers-long (length p) h in
-    let rest = extended-long h in
+    let rest = extended-long (kindIn h) in
     let whole = wire-long c in
     let sum = length-append C (extendedOctets h) in
     let ends : drop (headersOf (kindIn h)) (wire c) ≡ p = drop-at (C ++ extendedOctets h) p (headersOf (kindIn h)) (omega arith) in
     record { long = omega arith; room = omega arith; same = sym (ap (λ n. extendedOctets h ++ drop n (wire c)) rest ∙ ap (λ t. extendedOctets h ++ t) ends) }
 
 pub read-written : Read-written
+unfolding octetsOf
 read-written c f ok =
     let h = c .header in
     let p = c .payload in
@@ -96,7 +101,7 @@ read-written c f ok =
     let limit = a .payload in
     let span = headers-long (length p) h in
     let framed : framing o ≡ Ok k = framing-read k (length p) (commonIn h) (extendedOctets h ++ p) (omega (arith, most .1)) in
-    let counted : payloadLength o ≡ length p = omega arith in
+    let counted : payloadLength o ≡ length p = number-octets 2 (length p) (omega (arith, most .1)) in
     let sized : lengths k o ≡ Ok tt = lengths-read k o (length p) counted whole limit in
     let common : commonOf o ≡ commonIn h = common-read k (length p) (commonIn h) (extendedOctets h ++ p) in
     let limited : limits k (commonIn h) ≡ Ok tt = rw (a .hops, a .lives) in

@@ -3,8 +3,7 @@ use mathlib.Core.List.{List, _++_}
 use mathlib.Core.Path.{_≡_, refl, sym, ap, _∙_}
 use Prim.Native.Nat.{ℕ, _+_, _≤_, _<_, _^_}
 use native.Mathlib.Omega.{arith}
-use lib.Dec.{ltb}
-use lib.ListN.{length, take, drop, getD, length-drop}
+use lib.ListN.{length, take, drop, getD}
 use Rattle.std.proofs.shelf.Lists.{drop-drop, drop-at, take-at, length-append, append-assoc}
 use Rattle.std.proofs.shelf.Tests.{le-ltb}
 use Rattle.std.specs.declared.result.Result.the-variants.{Ok}

@@ -1,10 +1,10 @@
 -- What was written is read. Assumes nothing.
 use mathlib.Core.Bool.{true}
 use mathlib.Core.List.{List, _++_}
-use mathlib.Core.Path.{_≡_, refl, ap, _∙_}
+use mathlib.Core.Path.{_≡_, refl}
 use Prim.Native.Nat.{ℕ, _+_, _-_, _<_, _≤_, _^_}
 use native.Mathlib.Omega.{arith}
-use lib.Dec.{ltb, leb, lit<}
+use lib.Dec.{leb, lit<}
 use lib.IntN.{ℤ, natAbs}
 use lib.Signed.{mag}
 use lib.ListN.{length}
@@ -12,8 +12,8 @@ use Rattle.std.proofs.shelf.Tests.{le-ltb, leb-true, and-parts}
 use Rattle.std.specs.declared.result.Result.the-variants.{Ok}
 use Rattle.octets.proofs.Signs.{signed-unsigned, unsigned-small, mag-small}
 use Rattle.octets.proofs.Width.{length-octets}
-use Rattle.octets.specs.Faults.{signedAt, coordinateAt}
-use Rattle.octets.specs.Wire.{octetsOf, signed, unsigned}
+use Rattle.octets.specs.Faults.{coordinateAt}
+use Rattle.octets.specs.Wire.{octetsOf, unsigned}
 use Rattle.fields.specs.Positions.{onEarth, positionAt, positionOctets}
 use Rattle.fields.specs.declared.position.Position.{Position}
 use Rattle.vectors.specs.Vectors.{shortVectorAt, shortVectorOctets, longVectorAt, longVectorOctets, areaAt, areaOctets}

@@ -1,10 +1,10 @@
 -- A packet that was read is written as it was. Assumes nothing.
-use mathlib.Core.Bool.{Bool, true, false, cond, not, _||_}
+use mathlib.Core.Bool.{true, cond, not, _||_}
 use mathlib.Core.List.{List, _∷_, _++_}
 use mathlib.Core.Path.{_≡_, refl, sym, ap, _∙_}
 use Prim.Native.Nat.{ℕ, _+_, _-_, _*_, _/_, _%_, _<_, _≤_}
 use native.Mathlib.Omega.{arith}
-use lib.Dec.{ltb, leb, eqb, lit<, lit≤}
+use lib.Dec.{ltb, leb, eqb, lit<}
 use lib.ListN.{length, drop, getD, length-drop}
 use Rattle.std.proofs.shelf.Lists.{append-assoc, drop-more}
 use Rattle.std.proofs.shelf.Results.{made-weaker}
@@ -13,10 +13,9 @@ use Rattle.std.specs.Options.{okOr}
 use Rattle.std.specs.Vec.{made}
 use Rattle.std.specs.declared.option.Option.{Option}
 use Rattle.std.specs.declared.option.Option.the-variants.{Some, None}
-use Rattle.std.specs.declared.result.Result.{Result}
 use Rattle.std.specs.declared.result.Result.the-variants.{Ok, Err}
 use Rattle.octets.proofs.Width.{wider}
-use Rattle.octets.specs.Faults.{andThen, roomAt, readAt}
+use Rattle.octets.specs.Faults.{roomAt, readAt}
 use Rattle.octets.specs.Wire.{fieldAt, octetsOf}
 use Rattle.octets.specs.declared.fault.OctetFault.the-variants.{Missing}
 use Rattle.fields.proofs.Narrow.{upper-written}
@@ -24,17 +23,17 @@ use Rattle.fields.specs.Positions.{onEarth}
 use Rattle.fields.specs.UpperProtocols.{upperOf, upperNumber}
 use Rattle.vectors.specs.Vectors.{longVectorAt, shortVectorAt, areaAt}
 use Rattle.packets.specs.Common.{octet, commonOf, commonOctets, hopLimitsFit, lifetimeFits}
-use Rattle.packets.specs.Contents.{Header, Content, beacon, unicast, anycast, broadcast, singleHop, multiHop, kindIn, commonIn, sourceIn}
+use Rattle.packets.specs.Contents.{Header, beacon, unicast, anycast, broadcast, singleHop, multiHop, kindIn, commonIn, sourceIn}
 use Rattle.packets.specs.Faults.{passed}
 use Rattle.packets.specs.Kinds.{kindOf, kindOctet, headersOf, payloadLimit}
-use Rattle.packets.specs.Reading.{framing, lengths, limits, payloadLength, beaconAt, unicastAt, areaHeaderAt, singleHopAt, multiHopAt, headerAt, reading}
+use Rattle.packets.specs.Reading.{framing, lengths, limits, payloadLength, beaconAt, unicastAt, areaHeaderAt, singleHopAt, multiHopAt, headerAt}
 use Rattle.packets.specs.Writing.{extendedOctets, areaHeaderOctets, targetFits, wire}
 use Rattle.packets.specs.declared.common.CommonHeader.{CommonHeader}
-use Rattle.packets.specs.declared.fault.HeaderFault.{HeaderFault}
 use Rattle.packets.specs.declared.fault.HeaderFault.the-variants.{TooLong, Version, NextHeader, UnknownKind, PayloadLength, HopLimit, Lifetime}
 use Rattle.packets.specs.declared.headers.AreaHeader.{AreaHeader}
 use Rattle.packets.specs.declared.kind.Kind.{Kind}
 use Rattle.packets.specs.declared.kind.Kind.the-variants.{Beacon, Unicast, Anycast, Broadcast, SingleHop, MultiHop}
+use Rattle.writer.proofs.Spans.{extended-long}
 use Rattle.roundtrip.proofs.Checked.{accepts}
 use Rattle.roundtrip.proofs.Here.{Octets, number-here, long-here, short-here, area-here}
 use Rattle.roundtrip.proofs.Made.{made-then, made-passed, made-check}
@@ -184,26 +183,19 @@ head-split o h =
     rw (more 11 (lit< tt), more 10 (lit< tt), more 9 (lit< tt), more 8 (lit< tt), more 7 (lit< tt), more 6 (lit< tt), more 5 (lit< tt), more 4 (lit< tt), more 3 (lit< tt), more 2 (lit< tt), more 1 (lit< tt), more 0 (lit< tt))
 
 head-here : (k : Kind) (n : ℕ) (o : List ℕ) → Octets o → Framed o k → n ≡ payloadLength o → HeadClear o → o ≡ commonOctets k n (commonOf o) ++ drop 12 o
+unfolding octetsOf
 head-here k n o u f e b =
     let h = f .enough in
     let a : fieldAt 2 8 o ≡ fieldAt 1 8 o * 256 + octet 9 o = wider o 8 1 (omega arith) in
     let c : fieldAt 1 8 o ≡ 0 * 256 + octet 8 o = wider o 8 0 (omega arith) in
     let m : n ≡ octet 8 o * 256 + octet 9 o = omega arith in
     let upper : upperNumber (upperOf (octet 4 o / 16)) ≡ octet 4 o / 16 = upper-written (octet 4 o / 16) (omega (arith, u 4)) in
-    let p : octet 4 o ≡ upperNumber (upperOf (octet 4 o / 16)) * 16 = omega (arith, b .fourth) in
+    let p : octet 4 o ≡ upperNumber (upperOf (octet 4 o / 16)) * 16 = omega (arith, b .four) in
     let q : octet 7 o ≡ cond (leb 128 (octet 7 o)) 128 0 =
-    cond-both (leb 128 (octet 7 o)) 128 0 (λ y. octet 7 o ≡ y) (λ t. omega (arith, leb-true 128 (octet 7 o) t, u 7, b .seventh)) (λ t. omega (arith, leb-false 128 (octet 7 o) t, b .seventh)) in
-    let r : octet 8 o ≡ n / 256 = omega (arith, u 9) in
+    cond-both (leb 128 (octet 7 o)) 128 0 (λ y. octet 7 o ≡ y) (λ t. omega (arith, leb-true 128 (octet 7 o) t, u 7, b .seven)) (λ t. omega (arith, leb-false 128 (octet 7 o) t, b .seven)) in
+    let r : octet 8 o ≡ n / 256 % 256 = omega (arith, u 8, u 9) in
     let s : octet 9 o ≡ n % 256 = omega (arith, u 9) in
     head-split o h ∙ cc
-
-headers-enough : (k : Kind) → 12 + (headersOf k - 12) ≡ headersOf k
-headers-enough Beacon = refl
-headers-enough Unicast = refl
-headers-enough Anycast = refl
-headers-enough Broadcast = refl
-headers-enough SingleHop = refl
-headers-enough MultiHop = refl
 
 clear-head : (k : Kind) (o : List ℕ) → Clear k o → HeadClear o
 clear-head Beacon o c = c
@@ -217,7 +209,7 @@ clear-head MultiHop o c = c .0
 whole-here : (k : Kind) (o : List ℕ) (h : Header) → Octets o → Framed o k → Sized k o → HeaderHere k (commonOf o) o h → Clear k o → wire (record { header = h; payload = drop (headersOf k) o }) ≡ o
 whole-here k o h u f z t clear =
     let p = drop (headersOf k) o in
-    let rest = headers-enough k in
+    let rest = extended-long k in
     let n : length p ≡ payloadLength o = length-drop (headersOf k) o ∙ omega (arith, z .whole) in
     let C = commonOctets k (length p) (commonOf o) in
     let head = head-here k (length p) o u f n (clear-head k o clear) in

@@ -1,4 +1,4 @@
--- The two ways, as the reader and the writer go them. Assumes nothing.
+-- A packet read and written again, as the reader and the writer do it. Assumes nothing.
 use mathlib.Core.List.{List}
 use mathlib.Core.Path.{_≡_}
 use Prim.Native.Nat.{ℕ}
@@ -6,12 +6,10 @@ use lib.ListN.{length}
 use Rattle.std.specs.declared.result.Result.{Result}
 use Rattle.std.specs.declared.result.Result.the-variants.{Ok, Err}
 use Rattle.octets.specs.Wire.{placed}
-use Rattle.packets.specs.Contents.{Content, content, kindIn}
+use Rattle.packets.specs.Contents.{Content, kindIn}
 use Rattle.packets.specs.Reading.{reading}
-use Rattle.packets.specs.Writing.{wire, writing}
+use Rattle.packets.specs.Writing.{wire}
 use Rattle.packets.specs.declared.fault.HeaderFault.{HeaderFault}
-use Rattle.packets.specs.declared.fault.WriteFault.{WriteFault}
-use Rattle.packets.specs.declared.packet.Packet.{Packet}
 use Rattle.roundtrip.specs.Trips.{Clear}
 
 -- a packet that was read, and its octets as they were written over the front of a buffer
@@ -27,8 +25,3 @@ pub record Again (o before after : List ℕ) (n : ℕ) : Type 0 where
 abbrev pub Rewritten : List ℕ → List ℕ → List ℕ → Result ℕ HeaderFault → Type 0
 Rewritten o before after (Ok n) = Again o before after n
 Rewritten o before after (Err f) = (reading o ≡ Err f) × (after ≡ before)
-
--- a packet that was written, and what was read of it
-abbrev pub Reread : Packet → Result Packet WriteFault → Type 0
-Reread p (Ok q) = content q ≡ content p
-Reread p (Err f) = writing (content p) ≡ Err f

@@ -6,7 +6,6 @@ use lib.ListN.{length, getD}
 use Rattle.std.specs.Vec.{made}
 use Rattle.std.specs.declared.result.Result.the-variants.{Ok}
 use Rattle.octets.specs.Wire.{fieldAt}
-use Rattle.vectors.specs.declared.area.Area.{Area}
 use Rattle.vectors.specs.declared.long.LongPositionVector.{LongPositionVector}
 use Rattle.vectors.specs.declared.short.ShortPositionVector.{ShortPositionVector}
 use Rattle.packets.specs.Common.{octet}
@@ -49,10 +48,10 @@ Read-written = (c : Content) → Fits (c .header) → checked c ≡ Ok tt → re
 
 -- the reserved bits that every kind has are 0
 pub record HeadClear (o : List ℕ) : Type 0 where
-  pub second : octet 1 o ≡ 0
-  pub fourth : octet 4 o % 16 ≡ 0
-  pub seventh : octet 7 o % 128 ≡ 0
-  pub eleventh : octet 11 o ≡ 0
+  pub one : octet 1 o ≡ 0
+  pub four : octet 4 o % 16 ≡ 0
+  pub seven : octet 7 o % 128 ≡ 0
+  pub eleven : octet 11 o ≡ 0
 
 -- all reserved bits are 0: also those behind a sequence number and at the end of an area
 abbrev pub Clear : Kind → List ℕ → Type 0

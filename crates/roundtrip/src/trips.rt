@@ -1,7 +1,16 @@
 // The two ways, as a program goes them.
-ghost use Prim.Native.Nat.{_<_, _^_};
+ghost use mathlib.Core.Bool.{cond};
+ghost use mathlib.Core.Path.{_≡_};
+ghost use Prim.Native.Nat.{_<_, _≤_, _^_};
+ghost use lib.ListN.{take};
+ghost use Rattle.std.specs.Results.{isOk};
+ghost use Rattle.std.specs.Vec.{made};
+ghost use Rattle.std.specs.declared.result.Result.the-variants.{Ok};
+ghost use Rattle.octets.specs.Wire.{placed};
 ghost use Rattle.packets.specs.Contents.{content};
-ghost use Rattle.roundtrip.specs.Called.{Rewritten, Reread};
+ghost use Rattle.packets.specs.Reading.{reading};
+ghost use Rattle.packets.specs.Writing.{wire, writing};
+ghost use Rattle.roundtrip.specs.Called.{Rewritten};
 ghost use Rattle.roundtrip.specs.Trips.{Fits, AreaFits, LongFits, ShortFits};
 use packets::fault::HeaderFault;
 use packets::fault::WriteFault;
@@ -13,7 +22,7 @@ use vectors::short::ShortPositionVector;
 use writer::write::write;
 
 // Reads a packet and writes it over the front of the buffer. The octets are those that were read, if their reserved
-// bits are 0, and else those with these bits 0. A refused packet leaves the buffer as it was.
+// bits are 0. A refused packet leaves the buffer as it was.
 pub fn rewrite(octets: &[u8], buffer: &mut [u8; 1458]) -> Result<usize, HeaderFault>
     ensures { λ r. ⌜ Rewritten (now (octets .entry)) (now (buffer .entry)) (now (buffer .exit)) r ⌝ }
 {
@@ -24,16 +33,16 @@ pub fn rewrite(octets: &[u8], buffer: &mut [u8; 1458]) -> Result<usize, HeaderFa
     }
 }
 
-// Writes a packet over the front of the buffer and reads it there: it is the same packet.
-pub fn reread<'b>(packet: &Packet, buffer: &'b mut [u8; 1458]) -> Result<Packet<'b>, WriteFault>
-    ensures { λ r. ⌜ Reread (now (packet .entry)) r ⌝ }
+// Writes a packet as the writer does; what then stands in the front of the buffer is read as the same packet.
+pub fn write_readable(packet: &Packet, buffer: &mut [u8; 1458]) -> Result<usize, WriteFault>
+    ensures value { λ r. ⌜ r ≡ writing (content (now (packet .entry))) ⌝ }
+    ensures after { λ r. ⌜ now (buffer .exit) ≡ cond (isOk r) (placed 0 (wire (content (now (packet .entry)))) (now (buffer .entry))) (now (buffer .entry)) ⌝ }
+    ensures bound { λ r. ⌜ made r (λ count. count ≤ 1458) ⌝ }
+    ensures again { λ r. ⌜ made r (λ count. reading (take count (now (buffer .exit))) ≡ Ok (content (now (packet .entry)))) ⌝ }
 {
     let count = write(packet, buffer)?;
     packet_fits(packet);
-    match read(&buffer[0..count]) {
-        Ok(again) => Ok(again),
-        Err(_) => unreachable(),
-    }
+    Ok(count)
 }
 
 // That the numbers of a record fit their types is all that the functions below say. They do nothing.

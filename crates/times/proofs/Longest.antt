@@ -1,12 +1,10 @@
 -- The best octet, unit by unit. Assumes nothing.
-use mathlib.Core.Logic.{_⊎_, inl, inr, ⊎-elim}
-use mathlib.Core.Path.{_≡_, refl, sym, ap, _∙_, subst}
+use mathlib.Core.Path.{_≡_}
 use Prim.Native.Nat.{ℕ, _+_, _-_, _*_, _/_, _%_, _<_, _≤_, min}
 use native.Mathlib.Omega.{arith}
 use Rattle.std.proofs.shelf.Bits.{div-mul-add, mod-mul-add, le-div, mul-le, div-add-mod'}
-use Rattle.std.proofs.shelf.Tests.{cases-lt}
 use Rattle.std.proofs.shelf.Ways.{tells}
-use Rattle.times.specs.Lifetimes.{unitOf, lifetimeOf, NoWorse, Best, BestIn}
+use Rattle.times.specs.Lifetimes.{unitOf, lifetimeOf, BestIn}
 
 lifetime-is : (m u : ℕ) → u < 4 → lifetimeOf (m * 4 + u) ≡ m * unitOf u
 unfolding lifetimeOf

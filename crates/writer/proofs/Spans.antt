@@ -12,6 +12,7 @@ use Rattle.packets.specs.Kinds.{headersOf}
 use Rattle.packets.specs.Writing.{extendedOctets, wire}
 use Rattle.packets.specs.declared.common.CommonHeader.{CommonHeader}
 use Rattle.packets.specs.declared.kind.Kind.{Kind}
+use Rattle.packets.specs.declared.kind.Kind.the-variants.{Beacon, Unicast, Anycast, Broadcast, SingleHop, MultiHop}
 
 -- the first twelve octets and the extended header are as long as the table of kinds says
 pub headers-long : (n : ℕ) (h : Header) → headersOf (kindIn h) ≡ 0 + length (commonOctets (kindIn h) n (commonIn h) ++ extendedOctets h)
@@ -23,21 +24,23 @@ headers-long n (broadcast h) = refl
 headers-long n (singleHop h) = refl
 headers-long n (multiHop h) = refl
 
-pub extended-long : (h : Header) → 12 + (headersOf (kindIn h) - 12) ≡ headersOf (kindIn h)
-extended-long (beacon h) = refl
-extended-long (unicast h) = refl
-extended-long (anycast h) = refl
-extended-long (broadcast h) = refl
-extended-long (singleHop h) = refl
-extended-long (multiHop h) = refl
+-- the extended header ends where the headers do
+pub extended-long : (k : Kind) → 12 + (headersOf k - 12) ≡ headersOf k
+extended-long Beacon = refl
+extended-long Unicast = refl
+extended-long Anycast = refl
+extended-long Broadcast = refl
+extended-long SingleHop = refl
+extended-long MultiHop = refl
 
 -- the first twelve octets, the extended header and the payload, written one after the other, are the packet
 pub packet-put : (c : Content) (k : Kind) (m : CommonHeader) (p : List ℕ) (first count : ℕ) (o s t u : List ℕ) → k ≡ kindIn (c .header) → m ≡ commonIn (c .header) → p ≡ c .payload → first ≡ headersOf k → count ≡ headersOf (kindIn (c .header)) + length (c .payload) → 0 + count ≤ length o → s ≡ putAt 12 0 (commonOctets k (length p) m) o → t ≡ putAt (headersOf (kindIn (c .header)) - 12) 12 (extendedOctets (c .header)) s → u ≡ putAt (length p) first p t → u ≡ putAt count 0 (wire c) o
+unfolding octetsOf
 packet-put c k m p first count o s t u ek em ep ef ec room es et eu =
     let h = c .header in
     let n = length (c .payload) in
     let span = headers-long n h in
-    let rest = extended-long h in
+    let rest = extended-long (kindIn h) in
     let head : s ≡ putAt 12 0 (commonOctets (kindIn h) n (commonIn h)) o = es ∙ rw (ek, em, ep) in
     let tail : u ≡ putAt n (headersOf (kindIn h)) (c .payload) t = eu ∙ rw (ef, ek, ep) in
     let one = put-first 12 0 _ o _ head (omega arith) in

@@ -1,9 +1,9 @@
 // The headers, written from the front of the octets on.
 ghost use mathlib.Core.Path.{_≡_};
-ghost use Prim.Native.Nat.{_-_, _<_};
+ghost use Prim.Native.Nat.{_-_};
 ghost use Rattle.octets.specs.Faults.{roomAt};
 ghost use Rattle.octets.specs.Wire.{putAt};
-ghost use Rattle.packets.specs.Common.{commonOctets};
+ghost use Rattle.packets.specs.Common.{frontOctets, commonOctets};
 ghost use Rattle.packets.specs.Contents.{content, unicast, singleHop, multiHop, kindIn};
 ghost use Rattle.packets.specs.Kinds.{headersOf};
 ghost use Rattle.packets.specs.Writing.{areaHeaderOctets, extendedOctets};
@@ -24,15 +24,25 @@ use packets::packet::Packet;
 pub(crate) fn put_common(
     octets: &mut [u8],
     kind: Kind,
-    payload: usize,
+    payload: u16,
     common: &CommonHeader,
 ) -> Result<(), OctetFault>
-    requires { ⌜ payload < 65536 ⌝ }
     ensures value { λ r. ⌜ r ≡ roomAt 12 0 (now (octets .entry)) ⌝ }
     ensures after { λ _. ⌜ now (octets .exit) ≡ putAt 12 0 (commonOctets kind payload (now (common .entry))) (now (octets .entry)) ⌝ }
 {
-    let mobile = if common.mobile { 128 } else { 0 };
-    let head = [
+    check_room(octets, 0, 12)?;
+    let front = front_octets(kind, common);
+    put_part(octets, 0, &front)?;
+    put_u16(octets, 8, payload)?;
+    put_part(octets, 10, &[common.maximum_hop_limit, 0])?;
+    Ok(())
+}
+
+// The octets before the payload length.
+fn front_octets(kind: Kind, common: &CommonHeader) -> [u8; 8]
+    ensures { λ r. ⌜ r ≡ frontOctets kind (now (common .entry)) ⌝ }
+{
+    [
         0x11,
         0,
         common.lifetime.octet,
@@ -40,13 +50,8 @@ pub(crate) fn put_common(
         common.upper_protocol.number() * 16,
         kind.octet(),
         common.traffic_class.octet,
-        mobile,
-        (payload / 256) as u8,
-        (payload % 256) as u8,
-        common.maximum_hop_limit,
-        0,
-    ];
-    put_part(octets, 0, &head)
+        if common.mobile { 128 } else { 0 },
+    ]
 }
 
 // The octets from octet 12 on, up to the payload.

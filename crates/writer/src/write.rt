@@ -1,9 +1,10 @@
 // The octets of a packet.
 ghost use mathlib.Core.Bool.{cond};
 ghost use mathlib.Core.Path.{_≡_};
-ghost use Prim.Native.Nat.{_+_, _<_};
+ghost use Prim.Native.Nat.{_+_, _<_, _≤_};
 ghost use lib.ListN.{length};
 ghost use Rattle.std.specs.Results.{isOk};
+ghost use Rattle.std.specs.Vec.{made};
 ghost use Rattle.octets.specs.Faults.{roomAt};
 ghost use Rattle.octets.specs.Wire.{placed, putAt};
 ghost use Rattle.packets.specs.Contents.{content, kindIn};
@@ -23,6 +24,7 @@ use packets::packet::Packet;
 pub fn write(packet: &Packet, buffer: &mut [u8; 1458]) -> Result<usize, WriteFault>
     ensures value { λ r. ⌜ r ≡ writing (content (now (packet .entry))) ⌝ }
     ensures after { λ r. ⌜ now (buffer .exit) ≡ cond (isOk r) (placed 0 (wire (content (now (packet .entry)))) (now (buffer .entry))) (now (buffer .entry)) ⌝ }
+    ensures bound { λ r. ⌜ made r (λ count. count ≤ 1458) ⌝ }
 {
     check_packet(packet)?;
     let count = packet.kind().header_count() + packet.payload().len();
@@ -42,7 +44,7 @@ fn put_packet(octets: &mut [u8], packet: &Packet, count: usize) -> Result<(), Oc
     let kind = packet.kind();
     let payload = packet.payload();
     let common = packet.common();
-    put_common(octets, kind, payload.len(), &common)?;
+    put_common(octets, kind, payload.len() as u16, &common)?;
     put_extended(octets, packet)?;
     put_part(octets, kind.header_count(), payload)?;
     Ok(())

@@ -1,7 +1,6 @@
 use borrow.Author.Needs.{needs}
 use native.Mathlib.Omega.{arith}
-use Prim.Native.Nat.{_+_, _*_, _<_, _^_}
-use mathlib.Core.Path.{_≡_}
+use Prim.Native.Nat.{_+_, _*_}
 use Rattle.octets.proofs.Width.{one-more, fits-64, wider}
 use Rattle.octets.proofs.read.number_at.Needs as need
 

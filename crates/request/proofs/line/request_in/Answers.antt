@@ -1,4 +1,3 @@
-use borrow.Author.Needs.{needs}
 use Rattle.std.proofs.shelf.Results.{err-from-errBy}
 use Rattle.request.proofs.Chain.{follows-more, stops-more, follows-all, requested, refused}
 use Rattle.request.proofs.line.request_in.Needs as need

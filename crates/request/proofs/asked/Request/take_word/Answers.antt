@@ -1,4 +1,3 @@
-use borrow.Author.Needs.{needs}
 use mathlib.Core.Logic.{inl}
 use mathlib.Core.Path.{refl}
 use lib.Dec.{lit<}

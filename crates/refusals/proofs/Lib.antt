@@ -1,0 +1,3 @@
+pub mod Steps
+pub mod Coordinates
+pub mod Agree

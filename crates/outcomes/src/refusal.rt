@@ -39,10 +39,8 @@ impl Refusal {
             WriteFault::Position => Reason::Coordinate,
             WriteFault::Payload => Reason::PayloadLimit,
         };
-        Refusal {
-            reason,
-            place: fault.place(),
-        }
+        let place = fault.place();
+        Refusal { reason, place }
     }
 
     pub fn number(&self) -> u8

@@ -1,4 +1,6 @@
 // The fields of a packet as types: none of them has a value beyond its bits.
+#![tactic(auto)]
+
 ghost use Rattle.std.specs.Prelude.{◌≡◌};
 ghost use Rattle.fields.specs.Laws.{MotionRead, MotionWritten, UpperRead, UpperWritten};
 

@@ -1,4 +1,5 @@
 // Worked figures of the rules, proved of the definitions that the contracts cite.
+#![tactic(auto)]
 ghost use Rattle.std.specs.Prelude.{◌≡◌};
 ghost use Rattle.figures.specs.Figures.{Figures};
 

@@ -1,4 +1,5 @@
 // The forwarding step, over any ground, policy and link.
+#![tactic(auto)]
 pub mod course;
 pub mod step;
 pub mod verdict;

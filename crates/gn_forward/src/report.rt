@@ -7,7 +7,7 @@ use crate::verdicts::{GroundVerdicts, RoundVerdicts};
 use ground::flat::Flat;
 use ground::scale::EastScale;
 use ground::street::Street;
-use hex::encode::Hex;
+use hex_digits::encode::Hex;
 use radio_queue::queue::{FRAMES, RadioQueue};
 use situation::told::Situation;
 use std::io;

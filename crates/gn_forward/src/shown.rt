@@ -2,7 +2,7 @@
 use crate::verdicts::LinkVerdicts;
 use forwarding::verdict::Verdict;
 use ground::fault::GroundFault;
-use hex::encode::Hex;
+use hex_digits::encode::Hex;
 use std::fmt;
 
 // The sender's distance, if it is known.

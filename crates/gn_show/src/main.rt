@@ -1,4 +1,5 @@
 // Shows the fields of packets: reads lines of hexadecimal octets, and writes what stands in them.
+#![tactic(auto)]
 use show::run::run;
 use std::io;
 

@@ -1,6 +1,6 @@
 -- What a line says, and which lines say nothing. Assumes nothing.
 use Rattle.std.specs.Prelude.{ℕ, ◌-◌, Bool, true, cond, ◌&&◌, ◌||◌, List, [], ◌∷◌, length, take, ◌==◌, nat_le, slice_index}
-use Rattle.hex.specs.Hex.{blank}
+use Rattle.hex_digits.specs.Hex.{blank}
 
 -- whether a line ends with an octet
 abbrev pub ends_with : ℕ → List ℕ → Bool

@@ -1,3 +1,4 @@
 // The lines of standard input.
+#![tactic(auto)]
 pub mod answer;
 pub mod line;

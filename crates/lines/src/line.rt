@@ -2,7 +2,7 @@
 ghost use Rattle.std.specs.Prelude.{◌≡◌};
 ghost use Rattle.lines.specs.Lines.{ends_with, without_end, content_of, all_blank, comment, passed_over};
 
-use hex::decode::is_blank;
+use hex_digits::decode::is_blank;
 
 // The line without the line feed at its end, and without one carriage return before that.
 pub fn content(line: &[u8]) -> &[u8]

@@ -1,4 +1,6 @@
 // Octets on the air: numbers in big-endian order, at any place of a slice.
+#![tactic(auto)]
+
 ghost use Rattle.std.specs.Prelude.{◌≡◌};
 ghost use Rattle.octets.specs.Laws.{ReadWritten, WrittenRead, OneOctet};
 

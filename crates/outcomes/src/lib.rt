@@ -1,4 +1,5 @@
 // What came of some octets: the packet that they are, or the refusal and its reason.
+#![tactic(auto)]
 pub mod examine;
 pub mod outcome;
 pub mod reason;

@@ -1,4 +1,6 @@
 // Policies: who is to carry a packet on.
+#![tactic(auto)]
+
 pub mod choice;
 pub mod contention;
 pub mod greedy;

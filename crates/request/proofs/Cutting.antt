@@ -2,7 +2,7 @@
 use Rattle.std.proofs.Common.{◌≡◌, ℕ, suc, ◌+◌, ◌-◌, ◌<◌, ◌≤◌, Bool, true, false, cond, not, List, [], ◌∷◌, ◌++◌, length, get_or, take, drop, sym, refl, ap, ◌∙◌, arith}
 use mathlib.Core.Bool.{beq}
 use Rattle.std.proofs.lemmas.List.{drop_more, drop_all, append_assoc, append-nil}
-use Rattle.hex.specs.Hex.{blank}
+use Rattle.hex_digits.specs.Hex.{blank}
 use Rattle.request.specs.Cuts.{ended, words_from, words_of, like, front_count}
 
 -- an octet that is like the ones before is counted

@@ -3,7 +3,7 @@ use Rattle.std.specs.Prelude.{ℕ, false, cond, List, pos, Some, None, Option, n
 use Rattle.std.specs.Option.{option_map}
 use Rattle.fields.specs.Motions.{motion_from, accurate_in, speed_in}
 use Rattle.fields.specs.UpperProtocols.{upper_of}
-use Rattle.hex.specs.Hex.{number_of}
+use Rattle.hex_digits.specs.Hex.{number_of}
 use Rattle.vectors.specs.declared.area.Area.{Area}
 use Rattle.vectors.specs.declared.long.LongPositionVector.{LongPositionVector}
 use Rattle.vectors.specs.declared.short.ShortPositionVector.{ShortPositionVector}

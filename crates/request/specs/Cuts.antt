@@ -1,6 +1,6 @@
 -- The words of a text. Assumes nothing.
 use Rattle.std.specs.Prelude.{◌≡◌, ℕ, suc, ◌<◌, Bool, true, false, cond, not, List, [], ◌∷◌, ◌++◌, length, Some, None, Option}
-use Rattle.hex.specs.Hex.{blank}
+use Rattle.hex_digits.specs.Hex.{blank}
 use Rattle.request.specs.declared.cut.Cut.{Cut}
 
 -- a word that has ended, before the others; one of no octets is none

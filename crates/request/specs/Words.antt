@@ -1,6 +1,6 @@
 -- What one word does to a request. Assumes nothing.
 use Rattle.std.specs.Prelude.{◌≡◌, ℕ, ◌<◌, ◌⊎◌, List, ◌∷◌, ◌++◌, length, Some, None, Ok, Err, vec_items, codes, Result, ◌≢◌, slice_index}
-use Rattle.hex.specs.Hex.{decoded}
+use Rattle.hex_digits.specs.Hex.{decoded}
 use Rattle.request.specs.Asked.{fields_with}
 use Rattle.request.specs.Names.{field_name}
 use Rattle.request.specs.declared.asked.Request.{Request}

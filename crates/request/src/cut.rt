@@ -2,7 +2,7 @@
 ghost use Rattle.std.specs.Prelude.{◌≡◌, ◌≤◌, length};
 ghost use Rattle.request.specs.Cuts.{FirstOf, front_count};
 
-use hex::decode::is_blank;
+use hex_digits::decode::is_blank;
 
 // A word, and the text behind it.
 #[derive(Clone, Copy)]

@@ -11,7 +11,7 @@ use fields::position::Position;
 use fields::sequence_number::SequenceNumber;
 use fields::traffic_class::TrafficClass;
 use fields::upper_protocol::UpperProtocol;
-use hex::number::{u32_of, u64_of};
+use hex_digits::number::{u32_of, u64_of};
 use packets::common::CommonHeader;
 use times::lifetime::Lifetime;
 use times::timestamp::Timestamp;

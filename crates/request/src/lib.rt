@@ -1,4 +1,5 @@
 // A packet as words, and the record that they ask for.
+#![tactic(auto)]
 pub mod asked;
 pub mod blank;
 pub mod cut;

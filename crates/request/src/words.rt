@@ -9,7 +9,7 @@ use crate::fault::RequestFault;
 use crate::fill::fields_with;
 use crate::lookup::field_named;
 use crate::names::Field;
-use hex::decode::decode;
+use hex_digits::decode::decode;
 use packets::kind::Kind;
 use std::alloc::Global;
 

@@ -1,4 +1,5 @@
 // Reading and writing are each other's way back.
+#![tactic(auto)]
 ghost use Rattle.std.specs.Prelude.{◌≡◌};
 ghost use Rattle.roundtrip.specs.Trips.{ReadWritten, WrittenRead};
 

@@ -1,4 +1,5 @@
 // What the router's calls are asked and what they answer. The rules themselves are definitions, in specs/.
+#![tactic(auto)]
 pub mod answer;
 pub mod fault;
 pub mod hold;

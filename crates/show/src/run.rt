@@ -1,6 +1,6 @@
 // A line of hexadecimal octets, taken apart.
 use crate::report::{NotOctets, Report};
-use hex::decode::decode;
+use hex_digits::decode::decode;
 use lines::answer::{Answer, answer_all};
 use outcomes::examine::examine;
 use outcomes::outcome::Outcome;

@@ -1,7 +1,7 @@
 -- The situation that the words of a line tell of. Assumes nothing.
 use Rattle.std.specs.Prelude.{◌≡◌, ℕ, cond, ◌⊎◌, List, [], ◌∷◌, ◌++◌, length, Some, None, Ok, Err, vec_items, IsUtf8, Option, Result, nat_lt}
 use Rattle.std.specs.Option.{option_map}
-use Rattle.hex.specs.Hex.{decoded}
+use Rattle.hex_digits.specs.Hex.{decoded}
 use Rattle.location_table.specs.declared.entry.Entry.{Entry}
 use Rattle.request.specs.Numbers.{and_then}
 use Rattle.situation.specs.Filled.{no_fields, fields_with}

@@ -3,7 +3,7 @@ use Rattle.std.specs.Prelude.{ℕ, Bool, List, replicate, Option}
 use Rattle.std.specs.Option.{option_map}
 use Rattle.fields.specs.declared.address.Address.{Address}
 use Rattle.fields.specs.declared.position.Position.{Position}
-use Rattle.hex.specs.Hex.{number_of}
+use Rattle.hex_digits.specs.Hex.{number_of}
 use Rattle.location_table.specs.declared.entry.Entry.{Entry}
 use Rattle.request.specs.Numbers.{and_then, signed_in, flag_in}
 use Rattle.situation.specs.Halves.{cut_at}

@@ -5,7 +5,7 @@ ghost use Rattle.situation.specs.Values.{position_in, station_in, station_from};
 use crate::halves::around_comma;
 use fields::address::Address;
 use fields::position::Position;
-use hex::number::u64_of;
+use hex_digits::number::u64_of;
 use location_table::entry::Entry;
 use location_table::numbers::RecentNumbers;
 use request::numbers::{flag_in, i32_in};

@@ -9,7 +9,7 @@ use crate::lookup::name_in;
 use crate::names::{Field, Name};
 use crate::told::Situation;
 use crate::values::station_in;
-use hex::decode::decode;
+use hex_digits::decode::decode;
 use location_table::table::LocationTable;
 use std::alloc::{AllocError, Global};
 use std::str::from_utf8;

@@ -1,3 +1,5 @@
 // Lifetimes and timestamps.
+#![tactic(auto)]
+
 pub mod lifetime;
 pub mod timestamp;

@@ -6,11 +6,11 @@ use Rattle.ground.proofs.root.near_root.Goals as goal
 pub loop-step-init : goal.loop-step-init
 loop-step-init c = (omega arith, omega arith, excess_first c.args.n c.args.start (omega arith))
 
-pub nonzero-div-next : goal.nonzero-div-next
-nonzero-div-next c = let some = some_root c.args.n c.loop-step.x (omega arith) (omega arith) in omega arith
+pub nonzero_div-next : goal.nonzero_div-next
+nonzero_div-next c = let some = some_root c.args.n c.loop-step.x (omega arith) (omega arith) in omega arith
 
-pub overflow-add-next : goal.overflow-add-next
-overflow-add-next c =
+pub overflow_add-next : goal.overflow_add-next
+overflow_add-next c =
     let some = some_root c.args.n c.loop-step.x (omega arith) (omega arith) in
     omega (arith, quotient-most c.args.n c.loop-step.x some, mul-le (c.args.start + 1) (c.args.start + 1) 1073741824 1073741824 (omega arith) (omega arith))
 

@@ -2,13 +2,13 @@ use Rattle.std.proofs.Common.{◌+◌, ◌*◌, arith, rules}
 use Rattle.octets.proofs.Width.{one_more, fits_64, wider}
 use Rattle.octets.proofs.read.number_at.Goals as goal
 
-pub overflow-mul-n : goal.overflow-mul-n
-overflow-mul-n c =
+pub overflow_mul-n : goal.overflow_mul-n
+overflow_mul-n c =
     let h = fits_64 (c.loop-i.i + 1) (c.loop-i.n * 256 + 0) (omega arith) (one_more c.loop-i.i c.loop-i.n 0 c.loop-i.invariant.1 (omega arith)) in
     record { fits = omega arith }
 
-pub overflow-add-n : goal.overflow-add-n
-overflow-add-n c = record { fits = fits_64 (c.loop-i.i + 1) _ (omega arith) (one_more c.loop-i.i c.loop-i.n _ c.loop-i.invariant.1 (search rules)) }
+pub overflow_add-n : goal.overflow_add-n
+overflow_add-n c = record { fits = fits_64 (c.loop-i.i + 1) _ (omega arith) (one_more c.loop-i.i c.loop-i.n _ c.loop-i.invariant.1 (search rules)) }
 
 pub loop-i-preserved : goal.loop-i-preserved
 loop-i-preserved c =

@@ -5,8 +5,8 @@ use Rattle.roundtrip.proofs.trips.write_readable.Goals as goal
 pub returns : goal.returns
 returns c =
     record {
-      value = c.in-ok-count.ensures.value;
-      after = c.in-ok-count.ensures.after;
-      bound = c.in-ok-count.ensures.bound;
-      again = front_read (content c.args.packet.now) c.in-ok-count.count c.args.buffer.now c.write.new.buffer c.packet-fits.ensures c.in-ok-count.ensures.value c.in-ok-count.ensures.after;
+      value = c.in_ok-count.ensures.value;
+      after = c.in_ok-count.ensures.after;
+      bound = c.in_ok-count.ensures.bound;
+      again = front_read (content c.args.packet.now) c.in_ok-count.count c.args.buffer.now c.write.new.buffer c.packet_fits.ensures c.in_ok-count.ensures.value c.in_ok-count.ensures.after;
     }

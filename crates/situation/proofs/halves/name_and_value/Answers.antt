@@ -3,4 +3,4 @@ use Rattle.situation.proofs.Cutting.{cut_at_lem}
 use Rattle.situation.proofs.halves.name_and_value.Goals as goal
 
 pub returns : goal.returns
-returns c = cut_at_lem 61 c.args.word.now c.split-once.result c.split-once.ensures.cases (lit< tt)
+returns c = cut_at_lem 61 c.args.word.now c.split_once.result c.split_once.ensures.cases (lit< tt)

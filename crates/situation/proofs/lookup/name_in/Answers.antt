@@ -3,8 +3,8 @@ use Rattle.situation.proofs.Naming.{unnamed}
 use Rattle.situation.proofs.lookup.name_in.Goals as goal
 use Rattle.situation.specs.Names.{all_names}
 
-pub returns-in-default : goal.returns-in-default
-returns-in-default c =
-    let r = c.in-default in
+pub returns-in_default : goal.returns-in_default
+returns-in_default c =
+    let r = c.in_default in
     sym (unnamed c.args.text.now all_names
     (r.not-scale, (r.not_ours, (r.not-target, (r.not-sender, (r.not-radius, (r.not-held, (r.not-room, (r.not-times, (r.not-station, (r.not-packet, tt)))))))))))

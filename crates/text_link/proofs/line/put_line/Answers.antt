@@ -13,9 +13,9 @@ returns c =
     let six : length c.args.to.octets ≡ 6 = search rules in
     let small : (i : ℕ) → Fits w8 (get_or c.args.to.octets i 0) = search rules in
     let address : Octets c.args.to.octets = All-from_get_or _ _ 0 (λ i h. (small i).fits) in
-    let packet : Octets c.args.packet.now = All-from_get_or _ _ 0 (λ i h. (c.type-inv.packet i).fits) in
-    let written : vec_items c.push-reserved-2.new.self ≡ (((was ++ digits c.args.to.octets) ++ 44 ∷ []) ++ digits c.args.packet.now) ++ 10 ∷ [] = cc in
-    let line : vec_items c.push-reserved-2.new.self ≡ was ++ line_of f = written ∙ line_written was f in
+    let packet : Octets c.args.packet.now = All-from_get_or _ _ 0 (λ i h. (c.type_inv.packet i).fits) in
+    let written : vec_items c.push_reserved-2.new.self ≡ (((was ++ digits c.args.to.octets) ++ 44 ∷ []) ++ digits c.args.packet.now) ++ 10 ∷ [] = cc in
+    let line : vec_items c.push_reserved-2.new.self ≡ was ++ line_of f = written ∙ line_written was f in
     record {
       items = line;
       frames = λ exact. ap decoded line ∙ decoded-push f six address packet was exact;

@@ -8,8 +8,8 @@ unfolding octets_of
 returns c =
     let o = c.args.octets.now in
     let room : 56 ≤ length o = search rules in
-    let first = put_first 2 12 _ o _ c.put-u16.ensures.after (omega arith) in
-    let second = put_after 2 12 14 _ _ o _ _ first c.put-u16-2.ensures.after refl (omega arith) in
+    let first = put_first 2 12 _ o _ c.put_u16.ensures.after (omega arith) in
+    let second = put_after 2 12 14 _ _ o _ _ first c.put_u16-2.ensures.after refl (omega arith) in
     let third = put_after 24 12 16 _ _ o _ _ second c.write.ensures.after refl (omega arith) in
     let fourth = put_after 16 12 40 _ _ o _ _ third c.write-2.ensures.after refl (omega arith) in
     record { value = search rules; after = put_all 44 12 _ o _ fourth room }

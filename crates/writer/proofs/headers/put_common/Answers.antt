@@ -8,7 +8,7 @@ unfolding octets_of
 returns c =
     let o = c.args.octets.now in
     let room : 12 ≤ length o = search rules in
-    let first = put_first 8 0 _ o _ (c.put-part.ensures.after ∙ ap (λ front. put_at (length front) 0 front o) c.front-octets-front.ensures) (omega arith) in
-    let second = put_after 2 0 8 _ _ o _ _ first c.put-u16.ensures.after refl (omega arith) in
-    let third = put_after 2 0 10 _ _ o _ _ second c.put-part-2.ensures.after refl (omega arith) in
+    let first = put_first 8 0 _ o _ (c.put_part.ensures.after ∙ ap (λ front. put_at (length front) 0 front o) c.front_octets-front.ensures) (omega arith) in
+    let second = put_after 2 0 8 _ _ o _ _ first c.put_u16.ensures.after refl (omega arith) in
+    let third = put_after 2 0 10 _ _ o _ _ second c.put_part-2.ensures.after refl (omega arith) in
     record { value = search rules; after = put_all 12 0 _ o _ third room }

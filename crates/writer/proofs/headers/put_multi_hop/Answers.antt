@@ -8,7 +8,7 @@ unfolding octets_of
 returns c =
     let o = c.args.octets.now in
     let room : 40 ≤ length o = search rules in
-    let first = put_first 2 12 _ o _ c.put-u16.ensures.after (omega arith) in
-    let second = put_after 2 12 14 _ _ o _ _ first c.put-u16-2.ensures.after refl (omega arith) in
+    let first = put_first 2 12 _ o _ c.put_u16.ensures.after (omega arith) in
+    let second = put_after 2 12 14 _ _ o _ _ first c.put_u16-2.ensures.after refl (omega arith) in
     let third = put_after 24 12 16 _ _ o _ _ second c.write.ensures.after refl (omega arith) in
     record { value = search rules; after = put_all 28 12 _ o _ third room }

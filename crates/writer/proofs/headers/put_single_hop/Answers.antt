@@ -9,5 +9,5 @@ returns c =
     let o = c.args.octets.now in
     let room : 40 ≤ length o = search rules in
     let first = put_first 24 12 _ o _ c.write.ensures.after (omega arith) in
-    let second = put_after 4 12 36 _ _ o _ _ first c.put-u32.ensures.after refl (omega arith) in
+    let second = put_after 4 12 36 _ _ o _ _ first c.put_u32.ensures.after refl (omega arith) in
     record { value = search rules; after = put_all 28 12 _ o _ second room }

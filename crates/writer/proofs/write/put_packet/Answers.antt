@@ -8,7 +8,7 @@ returns c =
     let room : 0 + c.args.count ≤ length c.args.octets.now = search rules in
     record {
       value = search rules;
-      after = packet_put (content c.args.packet.now) c.kind-kind.result c.common-common.result c.payload-payload.result.now c.header-count.result c.args.count c.args.octets.now _ _ _
-          c.kind-kind.ensures c.common-common.ensures c.payload-payload.ensures c.header-count.ensures c.requires.1 room
-          c.put-common.ensures.after c.put-extended.ensures.after c.put-part.ensures.after;
+      after = packet_put (content c.args.packet.now) c.kind-kind.result c.common-common.result c.payload-payload.result.now c.header_count.result c.args.count c.args.octets.now _ _ _
+          c.kind-kind.ensures c.common-common.ensures c.payload-payload.ensures c.header_count.ensures c.requires.1 room
+          c.put_common.ensures.after c.put_extended.ensures.after c.put_part.ensures.after;
     }

@@ -12,6 +12,6 @@ returns c =
     let room : at + 8 ≤ length o = search rules in
     let lat : SFits w32 c.args.self.latitude = search rules in
     let lon : SFits w32 c.args.self.longitude = search rules in
-    let first = put_first 4 at _ o _ c.put-i32.ensures.after (omega arith) in
-    let second = put_after 4 at (at + 4) _ _ o _ _ first c.put-i32-2.ensures.after refl (omega arith) in
+    let first = put_first 4 at _ o _ c.put_i32.ensures.after (omega arith) in
+    let second = put_after 4 at (at + 4) _ _ o _ _ first c.put_i32-2.ensures.after refl (omega arith) in
     record { value = search rules; after = simp to_z-of_z at (put_all 8 at _ o _ second room) }

@@ -7,4 +7,4 @@ abbrev picked : List ℕ → LinkAddress
 picked b = record { octets = get_or b 2 0 ∷ get_or b 3 0 ∷ get_or b 4 0 ∷ get_or b 5 0 ∷ get_or b 6 0 ∷ get_or b 7 0 ∷ [] }
 
 pub returns : goal.returns
-returns c = ap picked c.to-be-bytes-octets.ensures ∙ ap (λ (l : List ℕ). record { octets = l }) (last_six c.args.address.value)
+returns c = ap picked c.to_be_bytes-octets.ensures ∙ ap (λ (l : List ℕ). record { octets = l }) (last_six c.args.address.value)

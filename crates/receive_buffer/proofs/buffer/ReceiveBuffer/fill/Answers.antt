@@ -7,5 +7,5 @@ returns c =
     let part = c.args.octets.now in
     let before = c.args.self.now.octets in
     let room : 0 + length part ≤ length before = search rules in
-    let written = put_first (length part) 0 part before _ c.put-part.ensures.after room in
+    let written = put_first (length part) 0 part before _ c.put_part.ensures.after room in
     record { value = search rules; after = ap (take (length part)) written ∙ part_placed 0 (length part) part before (omega arith) refl; behind = written }

@@ -5,18 +5,18 @@ use Rattle.text_link.specs.TextLinks.{text_of}
 use Rattle.text_link.proofs.Lines.{exact_push}
 use Rattle.text_link.proofs.text.TextLink.put_last.Goals as goal
 
-pub put-line-requires : goal.put-line-requires
-put-line-requires c =
+pub put_line-requires : goal.put_line-requires
+put_line-requires c =
     let t = c.args.self.now in
     let fits : length (text_of t) + (14 + 2 * length c.args.packet.now) ≤ t.limit = leb-true _ _ c.requires in
     omega arith
 
-pub invariant-of-self : goal.invariant-of-self
-invariant-of-self c =
+pub invariant_of-self : goal.invariant_of-self
+invariant_of-self c =
     let t = c.args.self.now in
     let fits : length (text_of t) + (14 + 2 * length c.args.packet.now) ≤ t.limit = leb-true _ _ c.requires in
-    let exact = exact_push (text_of t) _ (frame c.args.to c.args.packet.now) t.exact c.put-line.ensures.items (c.put-line.ensures.frames t.exact) in
+    let exact = exact_push (text_of t) _ (frame c.args.to c.args.packet.now) t.exact c.put_line.ensures.items (c.put_line.ensures.frames t.exact) in
     (omega arith, (omega arith, (exact, tt)))
 
 pub returns : goal.returns
-returns c = record { frames = c.put-line.ensures.frames c.args.self.now.exact; text = c.put-line.ensures.items; limit = refl }
+returns c = record { frames = c.put_line.ensures.frames c.args.self.now.exact; text = c.put_line.ensures.items; limit = refl }

@@ -10,8 +10,8 @@ returns c =
     let o = c.args.octets.now in
     let room : at + 16 ≤ length o = search rules in
     let first = put_first 8 at _ o _ c.write.ensures.after (omega arith) in
-    let second = put_after 2 at (at + 8) _ _ o _ _ first c.put-u16.ensures.after refl (omega arith) in
-    let third = put_after 2 at (at + 10) _ _ o _ _ second c.put-u16-2.ensures.after refl (omega arith) in
-    let fourth = put_after 2 at (at + 12) _ _ o _ _ third c.put-u16-3.ensures.after refl (omega arith) in
-    let fifth = put_after 2 at (at + 14) _ _ o _ _ fourth c.put-u16-4.ensures.after refl (omega arith) in
+    let second = put_after 2 at (at + 8) _ _ o _ _ first c.put_u16.ensures.after refl (omega arith) in
+    let third = put_after 2 at (at + 10) _ _ o _ _ second c.put_u16-2.ensures.after refl (omega arith) in
+    let fourth = put_after 2 at (at + 12) _ _ o _ _ third c.put_u16-3.ensures.after refl (omega arith) in
+    let fifth = put_after 2 at (at + 14) _ _ o _ _ fourth c.put_u16-4.ensures.after refl (omega arith) in
     record { value = search rules; after = put_all 16 at _ o _ fifth room }

@@ -2,7 +2,7 @@
 use Rattle.std.proofs.Common.{◌≡◌, ℕ, ◌+◌, ◌*◌, ◌<◌, ◌≤◌, true, false, cond, List, [], ◌∷◌, ◌++◌, length, get_or, drop, Some, None, Option, refl, ap, ◌∙◌}
 use Rattle.std.proofs.lemmas.List.{drop_more, drop_all}
 use Rattle.std.proofs.lemmas.Bool.{cond-true, cond-false}
-use Rattle.hex.specs.Hex.{blank, digit_of, next, decoded_from}
+use Rattle.hex_digits.specs.Hex.{blank, digit_of, next, decoded_from}
 
 decoded_more : (text octets : List ℕ) (i : ℕ) (high : Option ℕ) → i < length text → decoded_from (drop i text) octets high ≡ cond (blank (get_or text i 0)) (decoded_from (drop (i + 1) text) octets high) (next (decoded_from (drop (i + 1) text)) octets high (digit_of (get_or text i 0)))
 unfolding decoded_from

@@ -3,7 +3,7 @@ use Rattle.std.proofs.Common.{◌≡◌, ℕ, ◌+◌, ◌*◌, ◌^◌, ◌<◌
 use native.Mathlib.Nat.{pow-le-pow_right}
 use lib.Arith.{digits_lt}
 use Rattle.std.proofs.lemmas.List.{drop_more, drop_all}
-use Rattle.hex.specs.Hex.{digit_of, onward, number_from}
+use Rattle.hex_digits.specs.Hex.{digit_of, onward, number_from}
 
 number_step : (text : List ℕ) (i n : ℕ) (digit : Option ℕ) → i < length text → digit ≡ digit_of (get_or text i 0) → number_from (drop i text) n ≡ onward digit (λ d. number_from (drop (i + 1) text) (n * 16 + d))
 unfolding number_from

@@ -1,6 +1,6 @@
 // Numbers in hexadecimal digits.
 ghost use Rattle.std.specs.Prelude.{◌≡◌, ◌^◌, ◌<◌, ◌≤◌, IfSome};
-ghost use Rattle.hex.specs.Hex.{number_of};
+ghost use Rattle.hex_digits.specs.Hex.{number_of};
 
 use crate::decode::digit;
 

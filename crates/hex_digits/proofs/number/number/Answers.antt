@@ -1,21 +1,21 @@
 use Rattle.std.proofs.Common.{◌≡◌, ◌+◌, ◌*◌, ◌<◌, true, ◌&&◌, leb, length, sym, ◌∙◌, arith, rules}
 use Rattle.std.proofs.lemmas.Bool.{cond-true}
-use Rattle.hex.proofs.Numbers.{number_more, number_other, number_all, one_more, wider}
-use Rattle.hex.proofs.number.number.Goals as goal
+use Rattle.hex_digits.proofs.Numbers.{number_more, number_other, number_all, one_more, wider}
+use Rattle.hex_digits.proofs.number.number.Goals as goal
 
-pub returns-in-default : goal.returns-in-default
-returns-in-default c =
+pub returns-in_default : goal.returns-in_default
+returns-in_default c =
     let here : c.loop-b.b-index < length c.args.text.now = search rules in
     let test : (leb 1 (length c.args.text.now) && leb (length c.args.text.now) c.args.most) ≡ true = search rules in
-    record { value = sym (cond-true _ _ _ test ∙ c.loop-b.invariant.0 ∙ number_other _ _ _ here c.in-default.ensures.value); bound = tt }
+    record { value = sym (cond-true _ _ _ test ∙ c.loop-b.invariant.0 ∙ number_other _ _ _ here c.in_default.ensures.value); bound = tt }
 
-pub overflow-mul-value : goal.overflow-mul-value
-overflow-mul-value c =
+pub overflow_mul-value : goal.overflow_mul-value
+overflow_mul-value c =
     let small = wider (c.loop-b.b-index + 1) 16 (c.loop-b.value * 16 + 0) (one_more c.loop-b.b-index c.loop-b.value 0 c.loop-b.invariant.1 (omega arith)) (omega arith) in
     search rules
 
-pub overflow-add-value : goal.overflow-add-value
-overflow-add-value c =
+pub overflow_add-value : goal.overflow_add-value
+overflow_add-value c =
     let small = wider (c.loop-b.b-index + 1) 16 (c.loop-b.value * 16 + c.in-Some.low) (one_more c.loop-b.b-index c.loop-b.value c.in-Some.low c.loop-b.invariant.1 c.in-Some.ensures.bound) (omega arith) in
     search rules
 

@@ -1,6 +1,6 @@
 use Rattle.std.proofs.Common.{◌≡◌, ◌<◌, [], drop, IfSome, None, vec_items}
-use Rattle.hex.proofs.decode.decode.Given as goal
-use Rattle.hex.specs.Hex.{decoded_from}
+use Rattle.hex_digits.proofs.decode.decode.Given as goal
+use Rattle.hex_digits.specs.Hex.{decoded_from}
 
 abbrev pub invariant-loop-b : goal.invariant-loop-b
 invariant-loop-b l =

@@ -1,4 +1,6 @@
 // Hexadecimal, there and back.
+#![tactic(auto)]
+
 pub mod decode;
 pub mod encode;
 pub mod number;

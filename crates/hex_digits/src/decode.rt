@@ -1,7 +1,7 @@
 // From hexadecimal digits to octets.
 ghost use Rattle.std.specs.Prelude.{◌≡◌, ◌<◌, IfSome, IfOk, vec_items};
 ghost use Rattle.std.specs.Option.{option_map};
-ghost use Rattle.hex.specs.Hex.{digit_of, decoded, blank};
+ghost use Rattle.hex_digits.specs.Hex.{digit_of, decoded, blank};
 
 use std::alloc::{AllocError, Global};
 

@@ -1,5 +1,6 @@
 // Worked figures of the rules, proved of the definitions that the contracts cite.
 #![tactic(auto)]
+
 ghost use Rattle.std.specs.Prelude.{◌≡◌};
 ghost use Rattle.figures.specs.Figures.{Figures};
 

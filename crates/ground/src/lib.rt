@@ -1,5 +1,6 @@
 // Grounds: how far it is from a station to a target, in decimetres.
 #![tactic(auto)]
+
 pub mod circle;
 pub mod fault;
 pub mod flat;

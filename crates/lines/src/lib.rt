@@ -1,4 +1,5 @@
 // The lines of standard input.
 #![tactic(auto)]
+
 pub mod answer;
 pub mod line;

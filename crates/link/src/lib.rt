@@ -1,5 +1,6 @@
 // Links: anything that has a list of frames, each a link address and the octets of a packet.
 #![tactic(auto)]
+
 pub mod address;
 pub mod space;
 

@@ -1,5 +1,6 @@
 // What came of some octets: the packet that they are, or the refusal and its reason.
 #![tactic(auto)]
+
 pub mod examine;
 pub mod outcome;
 pub mod reason;

@@ -1,5 +1,6 @@
 // The six kinds of packet, as records.
 #![tactic(auto)]
+
 pub mod common;
 pub mod fault;
 pub mod headers;

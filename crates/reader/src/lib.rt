@@ -1,5 +1,6 @@
 // The reader: from received octets to a packet.
 #![tactic(auto)]
+
 pub mod checks;
 pub mod headers;
 pub mod read;

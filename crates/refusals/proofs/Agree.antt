@@ -1,6 +1,6 @@
 -- The reader answers the first row that fits. Assumes nothing.
 use Rattle.std.proofs.Common.{◌≡◌, ℕ, ◌+◌, ◌/◌, ◌%◌, Bool, cond, not, ◌&&◌, ◌||◌, eqb, ltb, leb, List, ◌∷◌, length, drop, is_some, Some, None, Ok, Err, Option, Result, refl, ◌∙◌, arith}
-use Rattle.std.proofs.lemmas.Bool.{eqb-true, not_false, or_parts}
+use Rattle.std.proofs.lemmas.Bool.{eqb-true, not-false, or_parts}
 use Rattle.std.proofs.lemmas.Bool.Decides.{nat_tests}
 use Rattle.std.specs.Option.{ok_or}
 use Rattle.octets.specs.Faults.{and_then}
@@ -48,7 +48,7 @@ of_kind_lem k o =
     let hops = not (hop_limits_fit k (common_of o)) in
     let lives = not (lifetime_fits (common_of o)) in
     check_row (a || ltb (payload_limit k) n) (length_row k o).fits PayloadLength (Ok tt) (λ _. _) (hop_row k o ∷ lifetime_row o ∷ coordinate_rows k o) (length_same k a n) (λ e.
-    let whole : length o ≡ headers_of k + n = eqb-true (length o) (headers_of k + n) (not_false _ (or_parts a (ltb (payload_limit k) n) e).0) in
+    let whole : length o ≡ headers_of k + n = eqb-true (length o) (headers_of k + n) (not-false _ (or_parts a (ltb (payload_limit k) n) e).0) in
     check_row hops (hop_row k o).fits HopLimit (cond lives (Err Lifetime) (Ok tt)) (λ _. _) (lifetime_row o ∷ coordinate_rows k o) (hop_same (one_hop k) (octet 3 o) (octet 10 o)) (λ _.
     check_row lives (lifetime_row o).fits Lifetime (Ok tt) (λ _. _) (coordinate_rows k o) (lifetime_same (octet 2 o)) (λ _.
     passed_up (header_at k (common_of o) o) (λ h. record { header = h; payload = drop (headers_of k) o }) ∙ header_rows k (common_of o) o (omega arith))))

@@ -1,5 +1,6 @@
 // A packet as words, and the record that they ask for.
 #![tactic(auto)]
+
 pub mod asked;
 pub mod blank;
 pub mod cut;

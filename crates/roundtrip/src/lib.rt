@@ -1,5 +1,6 @@
 // Reading and writing are each other's way back.
 #![tactic(auto)]
+
 ghost use Rattle.std.specs.Prelude.{◌≡◌};
 ghost use Rattle.roundtrip.specs.Trips.{ReadWritten, WrittenRead};
 

@@ -17,7 +17,7 @@ invariant_of-self c =
     let top = ap largest c.push_reserved.ensures.items ∙ largest_push (vec_items q.heads) _ in
     let stored = c.extend_from_slice.ensures.succeeds (storage-left q (length packet) c.requires) in
     let len : vec_len c.extend_from_slice.new.self ≡ vec_len q.octets + length packet = c.extend_from_slice.ensures.len ∙ ap (λ b. cond b (vec_len q.octets + length packet) (vec_len q.octets)) stored in
-    (omega arith, (omega arith, (omega arith, (omega arith, (omega arith, tt)))))
+    record { few = omega arith; places = omega arith; storage = omega arith; whole = omega arith; small = omega arith }
 
 pub returns : goal.returns
 returns c =

@@ -27,7 +27,7 @@ invariant_of-self c =
     let sum_left = ap total c.remove-head.ensures.items in
     let top_left = ap largest c.remove-head.ensures.items in
     let octets-left = simp length-drop at (ap length c.remove_front.ensures.items) in
-    (omega arith, (omega arith, (omega arith, (omega arith, (omega arith, tt)))))
+    record { few = omega arith; places = omega arith; storage = omega arith; whole = omega arith; small = omega arith }
 
 pub returns : goal.returns
 returns c =

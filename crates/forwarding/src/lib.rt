@@ -1,5 +1,6 @@
 // The forwarding step, over any ground, policy and link.
 #![tactic(auto)]
+
 pub mod course;
 pub mod step;
 pub mod verdict;

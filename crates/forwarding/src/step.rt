@@ -18,7 +18,7 @@ use policy::choice::Choice;
 
 // How far the sender is from the target, if its position is known.
 pub fn sender_distance<G: Ground>(course: Course, ground: &G) -> Option<u32>
-    ensures { result ≡ sender_distance (span ground.now) course }
+    ensures { result ≡ sender_distance (G.span ground.now) course }
 {
     match course.sender {
         Some(position) => Some(ground.distance(position, course.target)),
@@ -34,8 +34,8 @@ pub fn consult<G: Ground, P: Policy>(
     ground: &G,
     policy: &P,
 ) -> Choice
-    ensures value { result ≡ advice (choice policy.now) (span ground.now) course (stations_in table.now.entries.items) }
-    ensures sound { Sound (span ground.now course.ours course.target) (sender_distance (span ground.now) course) (distances (λ p. span ground.now p course.target) (stations_in table.now.entries.items)) result }
+    ensures value { result ≡ advice (P.choice policy.now) (G.span ground.now) course (stations_in table.now.entries.items) }
+    ensures sound { Sound (G.span ground.now course.ours course.target) (sender_distance (G.span ground.now) course) (distances (λ p. G.span ground.now p course.target) (stations_in table.now.entries.items)) result }
 {
     let mut near = [0; 64];
     let count = table.distances(course.target, ground, &mut near);
@@ -46,8 +46,8 @@ pub fn consult<G: Ground, P: Policy>(
 
 // Puts a packet on the link, with this verdict if there is space for it.
 fn put_out<L: Link>(link: &mut L, to: LinkAddress, packet: &[u8], verdict: Verdict) -> Verdict
-    ensures value { result ≡ spaced (space link.old (length packet.now)) verdict }
-    ensures frames { frames link.new ≡ joined (space link.old (length packet.now)) (frame to packet.now) (frames link.old) }
+    ensures value { result ≡ spaced (L.space link.old (length packet.now)) verdict }
+    ensures frames { L.frames link.new ≡ joined (L.space link.old (length packet.now)) (frame to packet.now) (L.frames link.old) }
 {
     match link.send(to, packet) {
         Ok(()) => verdict,
@@ -65,15 +65,15 @@ pub fn forward<G: Ground, P: Policy, L: Link>(
     policy: &P,
     link: &mut L,
 ) -> Verdict
-    ensures verdict { result ≡ judged (advice (choice policy.now) (span ground.now) course (stations_in table.now.entries.items)) held (link_addresses (stations_in table.now.entries.items)) (space link.old (length packet.now)) }
-    ensures frames { frames link.new ≡ frames link.old ++ frames_of result packet.now }
+    ensures verdict { result ≡ judged (advice (P.choice policy.now) (G.span ground.now) course (stations_in table.now.entries.items)) held (link_addresses (stations_in table.now.entries.items)) (L.space link.old (length packet.now)) }
+    ensures frames { L.frames link.new ≡ L.frames link.old ++ frames_of result packet.now }
     ensures untouched { Untouched result link.old link.new }
-    ensures nearer { Nearer (λ p. span ground.now p course.target) course.ours (stations_in table.now.entries.items) result }
+    ensures nearer { Nearer (λ p. G.span ground.now p course.target) course.ours (stations_in table.now.entries.items) result }
 {
     match consult(table, course, ground, policy) {
         Choice::Neighbour(index) => match table.link_address(index) {
             Some(to) => put_out(link, to, packet, Verdict::Unicast(to)),
-            None => unreachable(),
+            None => unreachable!(),
         },
         Choice::Wait(millis) => Verdict::Wait(millis),
         Choice::NoProgress => Verdict::NoProgress,

@@ -1,5 +1,6 @@
 // Shows the packets of a large table, as gn_show does.
 #![tactic(auto)]
+
 use show::run::run;
 use std::io;
 

@@ -10,7 +10,7 @@ use situation::told::Situation;
 
 impl Distances {
     pub fn of<G: Ground>(situation: &Situation, ground: &G) -> Distances
-        ensures { Measured (span ground.now) situation.now result }
+        ensures { Measured (G.span ground.now) situation.now result }
     {
         let course = situation.fields.course;
         let mut near = [0; 64];

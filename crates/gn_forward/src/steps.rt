@@ -38,7 +38,7 @@ fn round(situation: &Situation, scale: EastScale, links: &mut Links) -> RoundVer
 
 // Greedy first, and then contention.
 fn over_ground<G: Ground>(situation: &Situation, ground: &G, links: &mut Links) -> GroundVerdicts
-    ensures { Overall (span ground.now) situation.now links.old links.new result }
+    ensures { Overall (G.span ground.now) situation.now links.old links.new result }
 {
     let greedy = on_both_links(situation, ground, &Greedy {}, links);
     let contention = on_both_links(situation, ground, &Contention {}, links);
@@ -52,7 +52,7 @@ fn on_both_links<G: Ground, P: Policy>(
     policy: &P,
     links: &mut Links,
 ) -> LinkVerdicts
-    ensures { SteppedOnBoth (advised (choice policy.now) (span ground.now) situation.now) situation.now links.old links.new result }
+    ensures { SteppedOnBoth (advised (P.choice policy.now) (G.span ground.now) situation.now) situation.now links.old links.new result }
 {
     let queue = on_link(situation, ground, policy, &mut links.queue);
     let text = on_link(situation, ground, policy, &mut links.text);
@@ -65,7 +65,7 @@ fn on_link<G: Ground, P: Policy, L: Link>(
     policy: &P,
     link: &mut L,
 ) -> Verdict
-    ensures { Stepped (advised (choice policy.now) (span ground.now) situation.now) situation.now (space link.old (length situation.now.packet.items)) (frames link.old) (frames link.new) result }
+    ensures { Stepped (advised (P.choice policy.now) (G.span ground.now) situation.now) situation.now (L.space link.old (length situation.now.packet.items)) (L.frames link.old) (L.frames link.new) result }
 {
     forward(
         &situation.table,

@@ -1,6 +1,7 @@
 // The law of whole runs of a router, and that every run keeps it. There is nothing here to run: each function answers 0, and
 // its contract is a theorem.
 #![tactic(auto)]
+
 ghost use Rattle.std.specs.Prelude.{◌≡◌};
 ghost use Rattle.law.specs.Theorems.{EveryRunIsLawful, CallsBearTheLaw, OpeningBearsTheLaw};
 ghost use Rattle.law.specs.Example.{TheExample};

@@ -1,6 +1,6 @@
 -- What the writer makes sure of before it writes. Assumes nothing.
 use Rattle.std.proofs.Common.{◌≡◌, ℕ, ◌≤◌, Bool, true, false, cond, length, Ok, Err, Result, refl, arith}
-use Rattle.std.proofs.lemmas.Bool.{ltb-false, not_false, and_parts, and_from, le-ltb}
+use Rattle.std.proofs.lemmas.Bool.{ltb-false, not-false, and_parts, and_from, le-ltb}
 use Rattle.fields.specs.Positions.{on_earth}
 use Rattle.packets.specs.Common.{hop_limits_fit, lifetime_fits}
 use Rattle.packets.specs.Contents.{Content, kind_in, common_in, source_in}
@@ -27,8 +27,8 @@ accepted c h =
     let two = passed_check _ Lifetime _ one.1 in
     let three = passed_check _ Position _ two.1 in
     let four = passed_check _ Payload (Ok tt) three.1 in
-    let places = and_parts _ _ (not_false _ three.0) in
-    record { hops = not_false _ one.0; lives = not_false _ two.0; source = places.0; target = places.1; payload = ltb-false _ _ four.0 }
+    let places = and_parts _ _ (not-false _ three.0) in
+    record { hops = not-false _ one.0; lives = not-false _ two.0; source = places.0; target = places.1; payload = ltb-false _ _ four.0 }
 
 pub accepts : (c : Content) → Accepted c → checked c ≡ Ok tt
 accepts c a = rw (a.hops, a.lives, and_from _ _ a.source a.target, le-ltb (payload_limit (kind_in c.header)) (length c.payload) a.payload)

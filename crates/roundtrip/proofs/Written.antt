@@ -2,7 +2,7 @@
 use Rattle.std.proofs.Common.{◌≡◌, ℕ, ◌+◌, ◌-◌, ◌*◌, ◌/◌, ◌%◌, ◌<◌, ◌≤◌, true, cond, not, ◌||◌, eqb, ltb, leb, List, ◌∷◌, ◌++◌, length, get_or, drop, IfOk, Some, None, Ok, Err, Option, sym, refl, ap, ◌∙◌, arith, lit<, length-drop}
 use Rattle.std.proofs.lemmas.List.{append_assoc, drop_more}
 use Rattle.std.proofs.lemmas.Result.{IfOk-weaker}
-use Rattle.std.proofs.lemmas.Bool.{cond_both, ltb-false, leb-true, leb-false, eqb-true, not_false, or_parts}
+use Rattle.std.proofs.lemmas.Bool.{cond_both, ltb-false, leb-true, leb-false, eqb-true, not-false, or_parts}
 use Rattle.std.specs.Option.{ok_or}
 use Rattle.octets.proofs.Width.{wider}
 use Rattle.octets.specs.Faults.{room_at, read_at}
@@ -144,7 +144,7 @@ framing_here o =
     made_check (not (eqb (x / 16) 1)) Version third (Framed o) (λ v.
     made_check (not (eqb (x % 16) 1)) NextHeader last (Framed o) (λ n.
     IfOk-weaker last (λ k. octet 5 o ≡ kind_octet k) (Framed o)
-    (λ k e. record { enough = enough; first = omega (arith, eqb-true (x / 16) 1 (not_false _ v), eqb-true (x % 16) 1 (not_false _ n)); kind = e })
+    (λ k e. record { enough = enough; first = omega (arith, eqb-true (x / 16) 1 (not-false _ v), eqb-true (x % 16) 1 (not-false _ n)); kind = e })
     (kind_here (octet 5 o))))))
 
 -- what the check of the lengths makes sure of
@@ -158,13 +158,13 @@ lengths_here k o =
     let a = eqb (length o) (headers_of k + n) in
     made_check (not a || ltb (payload_limit k) n) PayloadLength (Ok tt) (λ _. Sized k o)
     (λ e. let p = or_parts (not a) (ltb (payload_limit k) n) e in
-    record { whole = eqb-true (length o) (headers_of k + n) (not_false a p.0); limit = ltb-false (payload_limit k) n p.1 })
+    record { whole = eqb-true (length o) (headers_of k + n) (not-false a p.0); limit = ltb-false (payload_limit k) n p.1 })
 
 -- what the check of the limits makes sure of
 limits_here : (k : Kind) (c : CommonHeader) → IfOk (limits k c) (λ _. (hop_limits_fit k c ≡ true) × (lifetime_fits c ≡ true))
 limits_here k c =
     made_check (not (hop_limits_fit k c)) HopLimit (cond (not (lifetime_fits c)) (Err Lifetime) (Ok tt)) _ (λ a.
-    made_check (not (lifetime_fits c)) Lifetime (Ok tt) _ (λ b. (not_false _ a, not_false _ b)))
+    made_check (not (lifetime_fits c)) Lifetime (Ok tt) _ (λ b. (not-false _ a, not-false _ b)))
 
 -- the first twelve octets
 head_split : (o : List ℕ) → 12 ≤ length o → o ≡ octet 0 o ∷ octet 1 o ∷ octet 2 o ∷ octet 3 o ∷ octet 4 o ∷ octet 5 o ∷ octet 6 o ∷ octet 7 o ∷ octet 8 o ∷ octet 9 o ∷ octet 10 o ∷ octet 11 o ∷ drop 12 o

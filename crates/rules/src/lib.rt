@@ -1,5 +1,6 @@
 // What the router's calls are asked and what they answer. The rules themselves are definitions, in specs/.
 #![tactic(auto)]
+
 pub mod answer;
 pub mod fault;
 pub mod hold;

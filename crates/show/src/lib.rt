@@ -1,5 +1,6 @@
 // Packets taken apart, as lines of text.
 #![tactic(auto)]
+
 pub mod fields;
 pub mod report;
 pub mod run;

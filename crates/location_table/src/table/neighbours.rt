@@ -17,10 +17,10 @@ fn measure<G: Ground>(
     near: &mut [u32; 64],
 ) -> usize
     requires { length entries.now ≤ 64 }
-    ensures count { result ≡ length (distances (λ p. span ground.now p target) (stations_in entries.now)) }
+    ensures count { result ≡ length (distances (λ p. G.span ground.now p target) (stations_in entries.now)) }
     ensures few { result ≤ 64 }
-    ensures front { take result near.new ≡ distances (λ p. span ground.now p target) (stations_in entries.now) }
-    ensures after { near.new ≡ distances (λ p. span ground.now p target) (stations_in entries.now) ++ drop result near.old }
+    ensures front { take result near.new ≡ distances (λ p. G.span ground.now p target) (stations_in entries.now) }
+    ensures after { near.new ≡ distances (λ p. G.span ground.now p target) (stations_in entries.now) ++ drop result near.old }
 {
     let mut count = 0;
     for entry in entries {
@@ -51,10 +51,10 @@ fn address_at(entries: &[Entry], index: usize) -> Option<LinkAddress>
 impl LocationTable {
     // Writes the neighbours' distances to the target, in table order, to the front of `near`; says how many there are.
     pub fn distances<G: Ground>(&self, target: Position, ground: &G, near: &mut [u32; 64]) -> usize
-        ensures count { result ≡ length (distances (λ p. span ground.now p target) (stations_in self.now.entries.items)) }
+        ensures count { result ≡ length (distances (λ p. G.span ground.now p target) (stations_in self.now.entries.items)) }
         ensures few { result ≤ 64 }
-        ensures front { take result near.new ≡ distances (λ p. span ground.now p target) (stations_in self.now.entries.items) }
-        ensures after { near.new ≡ distances (λ p. span ground.now p target) (stations_in self.now.entries.items) ++ drop result near.old }
+        ensures front { take result near.new ≡ distances (λ p. G.span ground.now p target) (stations_in self.now.entries.items) }
+        ensures after { near.new ≡ distances (λ p. G.span ground.now p target) (stations_in self.now.entries.items) ++ drop result near.old }
     {
         measure(self.entries.as_slice(), target, ground, near)
     }

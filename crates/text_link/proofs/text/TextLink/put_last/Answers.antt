@@ -16,7 +16,7 @@ invariant_of-self c =
     let t = c.args.self.now in
     let fits : length (text_of t) + (14 + 2 * length c.args.packet.now) ≤ t.limit = leb-true _ _ c.requires in
     let exact = exact_push (text_of t) _ (frame c.args.to c.args.packet.now) t.exact c.put_line.ensures.items (c.put_line.ensures.frames t.exact) in
-    (omega arith, (omega arith, (exact, tt)))
+    record { within = omega arith; reserved = omega arith; exact = exact }
 
 pub returns : goal.returns
 returns c = record { frames = c.put_line.ensures.frames c.args.self.now.exact; text = c.put_line.ensures.items; limit = refl }

@@ -1,5 +1,6 @@
 // Writes packets: reads lines of words, and writes the packets that they ask for as hexadecimal octets.
 #![tactic(auto)]
+
 use hex_digits::encode::Hex;
 use lines::answer::{Answer, answer_all};
 use outcomes::refusal::Refusal;

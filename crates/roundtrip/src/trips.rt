@@ -23,7 +23,7 @@ pub fn rewrite(octets: &[u8], buffer: &mut [u8; 1458]) -> Result<usize, HeaderFa
     let packet = read(octets)?;
     match write(&packet, buffer) {
         Ok(count) => Ok(count),
-        Err(_) => unreachable(),
+        Err(_) => unreachable!(),
     }
 }
 

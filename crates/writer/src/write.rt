@@ -25,7 +25,7 @@ pub fn write(packet: &Packet, buffer: &mut [u8; 1458]) -> Result<usize, WriteFau
     let count = packet.kind().header_count() + packet.payload().len();
     match put_packet(buffer, packet, count) {
         Ok(()) => Ok(count),
-        Err(_) => unreachable(),
+        Err(_) => unreachable!(),
     }
 }
 

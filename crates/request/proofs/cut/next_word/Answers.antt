@@ -12,4 +12,4 @@ returns-else-is_empty c =
     let some : 0 < length c.split_at-2.result.0.now = search rules in
     let first = first_word c.args.text.now c.split_at.result.1.now c.split_at-2.result.0.now c.split_at-2.result.1.now c.front_count.result c.front_count-2.result
     c.front_count.ensures.value c.split_at.ensures.back c.front_count-2.ensures.value c.split_at-2.ensures.front c.split_at-2.ensures.back in
-    (first ∙ ended_some _ _ some, omega (arith, c.split_at.ensures.back_len, c.split_at-2.ensures.back_len, c.split_at-2.ensures.front-len))
+    (first ∙ ended_some _ _ some, omega (arith, c.split_at.ensures.back_len, c.split_at-2.ensures.back_len, c.split_at-2.ensures.front_len))

@@ -1,6 +1,7 @@
 // Says which way packets go: reads situations in words, and writes what comes of the forwarding step over each ground,
 // policy and link.
 #![tactic(auto)]
+
 mod distances;
 mod links;
 mod measure;

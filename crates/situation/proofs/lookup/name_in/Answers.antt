@@ -7,4 +7,4 @@ pub returns-in_default : goal.returns-in_default
 returns-in_default c =
     let r = c.in_default in
     sym (unnamed c.args.text.now all_names
-    (r.not-scale, (r.not_ours, (r.not-target, (r.not-sender, (r.not-radius, (r.not-held, (r.not-room, (r.not-times, (r.not-station, (r.not-packet, tt)))))))))))
+    (r.not-scale, (r.not-ours, (r.not-target, (r.not-sender, (r.not-radius, (r.not-held, (r.not-room, (r.not-times, (r.not-station, (r.not-packet, tt)))))))))))

@@ -12,7 +12,7 @@ field() { sed -n "s/^$1: //p" "$2"; }
 lay_out() {
     rm -rf "$work/copy"
     mkdir "$work/copy"
-    cp -r "$root/crates.txt" "$root/crates" "$work/copy/"
+    tar -C "$root" --exclude=out -c crates.txt crates | tar -C "$work/copy" -x
 }
 
 apply() {
@@ -26,17 +26,9 @@ open(path, "w", encoding="utf-8").write(text.replace(old, new))
 PYTHON
 }
 
-# The compiler's front end alone, on the sources of the program and of all that it stands on: nothing is proved.
-kit=$(dirname "$(dirname "$(rt doc)")")
+# The compiler alone, by `rt try`, which builds and runs the program and proves nothing.
 compile() {
-    local libraries=() name used
-    while IFS=: read -r name used; do
-        libraries+=(--lib "$name:$(echo $used | tr ' ' ,)=$kit/$name/src/lib.rt")
-    done <"$kit/libs.txt"
-    for name in $(sed -n "s/^$1://p" "$work/copy/crates.txt"); do
-        libraries+=(--lib "$name=$work/copy/crates/$name/src/lib.rt")
-    done
-    "$kit/bin/rattle-print-mir" "$work/copy/crates/$1/src/main.rt" --crate-name "$1" "${libraries[@]}" >/dev/null 2>"$work/out"
+    (cd "$work/copy/crates/$1" && rt try </dev/null) >"$work/out" 2>&1
 }
 
 failed=0

@@ -1,9 +1,9 @@
 -- Two distances, by the one least root. Assumes nothing.
-use Rattle.std.proofs.Common.{◌≡◌, ℕ, ◌+◌, ◌*◌, ℤ, ◌-ℤ◌, nat_abs, sym, refl, ap, ◌∙◌, arith, lit<, lit≤}
+use Rattle.std.proofs.Common.{◌≡◌, ℕ, ◌+◌, ◌*◌, ℤ, ◌-ℤ◌, nat_abs, sym, refl, ◌∙◌, arith, lit<, lit≤}
 use Rattle.std.proofs.lemmas.Int.{ints}
 use Rattle.fields.specs.declared.position.Position.{Position}
 use Rattle.ground.specs.Roots.{root}
-use Rattle.ground.specs.Spans.{north, east, scaled, straight}
+use Rattle.ground.specs.Spans.{scaled, straight}
 use Rattle.ground.specs.Squares.{root_is, least_next, least_exact}
 
 -- from the sizes of the two differences

@@ -120,7 +120,7 @@ fn every_other_frame_goes_to_the_nearest(rt: HostRuntime) -> Result<(), Fail> {
     match link.below.first() {
         Some(frame) => {
             assert_eq!(rt; frame.to.octets[5], 1);
-            assert_eq!(rt; frame.packet, b"\x2a");
+            assert_eq!(rt; frame.packet, b"\x2a".as_slice());
             Ok(())
         }
         None => Err(Fail::new("no frame waits")),

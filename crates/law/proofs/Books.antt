@@ -9,12 +9,9 @@ use Rattle.law.proofs.Tables.{none_not_some, same_some}
 use Rattle.law.proofs.Moves.{Move, stays, joins, goes, struck}
 use Rattle.law.specs.Fates.{Cancelled, Fate, Fated, Fates, Lasting, LaterCall, Left, LetGo, MetBy, Taken, Taking, call_at, cancelled, cancelleds, gone, left, lefts, let_go, life, one_waiting, same_fate, seen, takes, takings, tally, waiting_in, waits, Copies, EndedBefore, FirstCancelled, Pairs}
 use Rattle.law.proofs.Earliest.{pairs-push, pairs-mid, pairs_map, before_waiting, before_left, behind_waiting, before_cancelled, waiting_among}
-use Rattle.law.specs.Runs.{call}
-use Rattle.law.specs.Words.{clock, told}
+use Rattle.law.specs.Words.{clock}
 use Rattle.law.specs.World.{Answer, Around, Call, Event, Fault, Frame, History, Start, State, Waiter, accepted, place, receive, refused, send, serve}
 use Rattle.rules.specs.Lines.{lasts, live_line}
-use Rattle.rules.specs.Rules.{cancels}
-use Rattle.rules.specs.Tables.{moved}
 
 -- Counting
 

@@ -9,7 +9,6 @@ use Rattle.law.proofs.Steps.{event, unless_both, Received, received}
 use Rattle.law.proofs.Listed.{let_go_told}
 use Rattle.law.proofs.Links.{found_all, same_answer}
 use Rattle.rules.specs.declared.verdict.Verdict.TheVariants as verdict
-use Rattle.law.specs.Fates.{Cancelled}
 use Rattle.law.specs.Laws.{Basics, CountsStations, Entries, Table}
 use Rattle.law.specs.Words.{Heard, clock, entered_in_order, heard, live_by, newcomer_by, row, still_live, told_by}
 use Rattle.law.specs.World.{Answer, Around, Call, Fault, Frame, History, LinkAddress, Start, State, Station, accepted, is_some, place, receive, send, serve}

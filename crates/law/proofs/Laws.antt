@@ -1,5 +1,5 @@
 -- Every run is lawful. Assumes nothing.
-use Rattle.std.proofs.Common.{◌≡◌, ℕ, ◌+◌, ◌-◌, ◌≤◌, Bool, true, false, cond, ◌&&◌, ◌||◌, eqb, List, [], ◌∷◌, ◌++◌, length, None, sym, refl, ap, ◌∙◌, subst, arith}
+use Rattle.std.proofs.Common.{◌≡◌, ℕ, ◌-◌, ◌≤◌, Bool, true, false, cond, ◌&&◌, ◌||◌, eqb, List, [], ◌∷◌, ◌++◌, length, None, sym, refl, ap, ◌∙◌, subst, arith}
 use Rattle.std.proofs.lemmas.List.{reverse-append}
 use Rattle.std.proofs.lemmas.Bool.{false≢true}
 use Rattle.law.proofs.Steps.{event, made, is_made, unless_both, Received, received, placed_later, sent_later, served_later}
@@ -14,7 +14,7 @@ use Rattle.law.proofs.Few.{live-few, receives-few, sends-few, served-few}
 use Rattle.law.proofs.Repeats.{deliveries}
 use Rattle.law.proofs.Origins.{origins}
 use Rattle.rules.specs.declared.verdict.Verdict.TheVariants as verdict
-use Rattle.law.specs.Fates.{Cancelled, Fates}
+use Rattle.law.specs.Fates.{Fates}
 use Rattle.law.specs.Laws.{OnlyReceivesDeliver, Basics, EachCall, Fresh, Judged, Lawful, OneLower, Table}
 use Rattle.law.specs.Theorems.{Goes_on, StaysLawful, Whole, Linked, CallsBearTheLaw, OpeningBearsTheLaw, asked}
 use Rattle.law.specs.Runs.{Obeys, Ran, call, opened, ruled}

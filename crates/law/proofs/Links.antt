@@ -1,5 +1,5 @@
 -- (c) What the link got, and what the state keeps besides the table. Assumes nothing.
-use Rattle.std.proofs.Common.{◌≡◌, ℕ, ◌+◌, ◌-◌, ◌%◌, ◌<◌, ◌≤◌, Bool, true, false, cond, ◌||◌, eqb, ltb, List, [], ◌∷◌, ◌++◌, length, Some, None, Option, sym, refl, ap, ◌∙◌, subst, arith}
+use Rattle.std.proofs.Common.{◌≡◌, ℕ, ◌+◌, ◌%◌, ◌<◌, ◌≤◌, Bool, true, false, cond, ◌||◌, eqb, ltb, List, [], ◌∷◌, ◌++◌, length, Some, None, Option, sym, refl, ap, ◌∙◌, subst, arith}
 use Rattle.std.specs.List.{AllByRecursion as All}
 use Rattle.std.proofs.lemmas.List.{append-nil}
 use Rattle.std.proofs.ByRecursion.{all-has, All-weaker}
@@ -15,7 +15,7 @@ use Rattle.forwarding.proofs.Carriers.{carrier}
 use Rattle.policy.specs.Choices.{Sound}
 use Rattle.location_table.specs.Neighbours.{distances}
 use Rattle.law.specs.Laws.{Basics, Carried, Once, OneLower, OneLowerBy, Table, named}
-use Rattle.law.specs.Words.{clock, known, marked, numbers_taken, packet}
+use Rattle.law.specs.Words.{numbers_taken, packet}
 use Rattle.law.specs.World.{Meant, Answer, Around, Call, Choice, Delivery, Fault, Frame, History, Hold, LinkAddress, LongPositionVector, Outcome, Position, Request, Start, State, Station, Waiter, accepted, for-ms, for-neighbour, frame, nearest, no-progress, nobody, on_some, place, receive, send, serve, wait}
 use Rattle.link.specs.Addresses.{link_address}
 use Rattle.rules.specs.Deeds.{Deed, advised, asked_for, behind, deed_for, dispatched, full, held, kept_waiting, no_space, position_of, rests, sent_by, spent, to_all, to_one, verdict_of}

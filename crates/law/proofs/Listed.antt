@@ -1,12 +1,11 @@
 -- (a) The table lists each address as the history tells. Assumes nothing.
-use Rattle.std.proofs.Common.{◌≡◌, ℕ, ◌+◌, ◌-◌, ◌≤◌, Bool, true, false, cond, not, ◌&&◌, ◌||◌, eqb, leb, List, [], ◌∷◌, ◌++◌, length, Some, None, filter, Option, sym, refl, ap, ◌∙◌, subst, arith}
+use Rattle.std.proofs.Common.{◌≡◌, ℕ, ◌+◌, ◌≤◌, Bool, true, false, cond, not, ◌&&◌, ◌||◌, eqb, leb, List, [], ◌∷◌, ◌++◌, length, Some, None, filter, Option, sym, refl, ap, ◌∙◌, subst, arith}
 use Rattle.std.proofs.lemmas.Bool.{eqb-true, eq-eqb, leb-false, le-leb, lt-leb}
 use Rattle.std.proofs.lemmas.List.{append-nil}
 use Rattle.law.proofs.Tables.{some_if, find_kept, once_kept, find_push, once_push, find-renew, once_renew, last_eight_more}
 use Rattle.law.proofs.Steps.{event, unless_both, Received, received, placed_later, sent_later, served_later}
 use Rattle.rules.specs.declared.verdict.Verdict.TheVariants as verdict
 use Rattle.law.specs.Laws.{Basics, Once, Table}
-use Rattle.law.specs.Runs.{call}
 use Rattle.law.specs.Words.{Heard, clock, heard, known, live_by, marked, newly, numbers, one_number, placed, placed_by, repeats, row, since_entry, told_by}
 use Rattle.law.specs.World.{Answer, Around, Call, Fault, Frame, History, LinkAddress, LongPositionVector, Outcome, Request, Start, State, Station, Waiter, accepted, is_some, on_some, or_else, place, receive, refused, send, serve}
 use Rattle.rules.specs.Known.{find, last_eight, memory_ms}
@@ -14,7 +13,6 @@ use Rattle.rules.specs.Lines.{Pick, leaving, live_line, none, one, pick}
 use Rattle.rules.specs.Packets.{number_of, source_of, vector_of}
 use Rattle.rules.specs.Rules.{Step, Way, cancels, copy_of, duplicate, leaves, no, only, our_address, place_fault, places, receive_fault, receives, send_fault, sends, served, serves, step, way_out}
 use Rattle.rules.specs.Tables.{again, entered, from_itself, live, live_table, noted, remember, remembers, renew}
-use Rattle.rules.specs.Verdicts.{number}
 
 -- what is told at a later time
 pub told_later : (c t a : ℕ) (xs : List Heard) → c ≤ t → some_if (live t) (told_by c xs) ≡ told_by t xs

@@ -1,5 +1,5 @@
 -- (b) What one call does to the line. Assumes nothing.
-use Rattle.std.proofs.Common.{◌≡◌, ℕ, ◌+◌, ◌-◌, ◌≤◌, Bool, true, false, cond, not, ◌&&◌, ◌||◌, eqb, List, [], ◌∷◌, ◌++◌, length, Some, None, Option, sym, refl, ap, ◌∙◌, subst, arith}
+use Rattle.std.proofs.Common.{◌≡◌, ℕ, ◌+◌, ◌≤◌, Bool, true, false, cond, not, ◌&&◌, ◌||◌, eqb, List, [], ◌∷◌, ◌++◌, length, Some, None, Option, sym, refl, ap, ◌∙◌, subst, arith}
 use Rattle.std.specs.List.{AllByRecursion as All}
 use Rattle.std.proofs.lemmas.Bool.{eqb-true, eq-eqb, and_parts, leb-true, and_from, true≢false}
 use Rattle.law.proofs.Tables.{none_not_some}
@@ -19,12 +19,12 @@ use Rattle.law.specs.Fates.{Copies, Cancelled, Lasting, Left, cancelleds, left_a
 use Rattle.law.specs.Laws.{Basics, Table}
 use Rattle.law.specs.Words.{packet}
 use Rattle.law.specs.World.{Answer, Around, Call, Choice, Delivery, Event, Frame, History, Hold, LinkAddress, LongPositionVector, Placing, Request, Start, State, Station, Verdict, Waiter, accepted, for-ms, for-neighbour, frame, nearest, no-progress, nobody, place, receive, send, serve, wait}
-use Rattle.rules.specs.Deeds.{Deed, advised, behind, dispatched, full, held, hold_verdict, kept_waiting, no_space, rests, spent, to_all, to_one, verdict_of}
+use Rattle.rules.specs.Deeds.{Deed, behind, dispatched, full, held, hold_verdict, kept_waiting, no_space, rests, spent, to_all, to_one, verdict_of}
 use Rattle.rules.specs.Known.{find}
 use Rattle.rules.specs.Lines.{lasts, Pick, leaving, live_line, none, one, pick, remaining}
 use Rattle.rules.specs.Packets.{destination_address, packet_lifetime, number_of, octet_for, passed_on, same_number, source_of}
 use Rattle.rules.specs.Requests.{body_kind, header_for, numbered, wanted, written}
-use Rattle.rules.specs.Rules.{Step, Way, bad_time, cancels, copy_of, count_up, delivery_of, does, duplicate, everywhere, leaves, link_of, only, places, receive_deed, receives, send_fault, sends, served, telling, to_everybody, to_neighbour, way_advised, way_held, way_out, way_to, way_verdict, within, writes}
+use Rattle.rules.specs.Rules.{Step, Way, bad_time, cancels, copy_of, count_up, delivery_of, does, duplicate, everywhere, leaves, link_of, only, places, receive_deed, receives, send_fault, sends, served, telling, to_everybody, to_neighbour, way_advised, way_held, way_out, way_to, way_verdict, writes}
 use Rattle.rules.specs.Tables.{live_table, noted}
 use Rattle.rules.specs.World.{waits_by_time}
 use Rattle.rules.specs.Verdicts.{addressed, number}

@@ -1,5 +1,5 @@
 -- (c) A call with verdict 2 goes to a live neighbour that is strictly nearer. Assumes nothing.
-use Rattle.std.proofs.Common.{◌≡◌, ℕ, ◌+◌, ◌-◌, ◌<◌, ◌≤◌, Bool, true, false, cond, List, [], ◌∷◌, ◌++◌, length, Some, None, Option, sym, refl, ap, ◌∙◌, subst, arith}
+use Rattle.std.proofs.Common.{◌≡◌, ℕ, ◌<◌, ◌≤◌, Bool, true, false, cond, List, [], ◌∷◌, ◌++◌, length, Some, None, Option, sym, refl, ap, ◌∙◌, subst, arith}
 use Rattle.std.proofs.lemmas.List.{append_cancel_left}
 use Rattle.law.proofs.Tables.{once_kept}
 use Rattle.law.proofs.Steps.{event, unless_both, received, sent_later, served_later}
@@ -8,9 +8,7 @@ use Rattle.rules.proofs.Hops.{target_kept}
 use Rattle.law.proofs.Links.{Near, dispatched_near, receive_near, one_sent, same_octets, same_answer, way_near}
 use Rattle.law.proofs.Picks.{Picked, picked}
 use Rattle.rules.specs.declared.verdict.Verdict.TheVariants as verdict
-use Rattle.law.specs.Fates.{Cancelled}
 use Rattle.law.specs.Laws.{Basics, Nearer, NearerIf, Once, Table}
-use Rattle.law.specs.Words.{clock}
 use Rattle.law.specs.World.{Meant, Answer, Around, Call, Delivery, Fault, Frame, History, LinkAddress, Outcome, Position, Start, State, Station, Waiter, accepted, frame, place, receive, send, serve}
 use Rattle.rules.specs.Deeds.{Deed, dispatched, kept_waiting, sent_by, verdict_of}
 use Rattle.rules.specs.Known.{address_of, find}

@@ -5,7 +5,6 @@ use Rattle.std.proofs.ByRecursion.{All-weaker, All-append}
 use Rattle.std.proofs.lemmas.Bool.{or_right}
 use Rattle.law.specs.Fates.{takes, takes_at, takes_by, takings}
 use Rattle.law.specs.Laws.{EachCall, OneLower, OneLowerBy, Origin}
-use Rattle.law.specs.Runs.{call}
 use Rattle.law.specs.Words.{packet}
 use Rattle.law.specs.World.{Call, Event, History, LinkAddress, Outcome, Request, Start, accepted, place, receive, refused, send, serve}
 use Rattle.rules.specs.Packets.{hops_of}

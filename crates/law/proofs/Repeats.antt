@@ -6,12 +6,10 @@ use Rattle.std.proofs.lemmas.Bool.{eq-eqb, eqb-false, ne_eqb, or_parts, or_left,
 use Rattle.law.proofs.Tables.{last_eight_more}
 use Rattle.law.proofs.Listed.{this}
 use Rattle.law.specs.Laws.{Deliveries, Different, EachCall, EightOthers, Fresh, Silence, newly_between}
-use Rattle.law.specs.Runs.{call}
 use Rattle.law.specs.Words.{Heard, call_newly, heard, live_by, newly, newly_by, numbers, one_number, repeats, since_entry}
 use Rattle.law.specs.World.{Call, Event, History, LinkAddress, Outcome, accepted, place, receive, refused, send, serve}
 use Rattle.rules.specs.Known.{among, last_eight, memory_ms}
 use Rattle.rules.specs.Packets.{number_of, source_of}
-use Rattle.rules.specs.Verdicts.{number}
 
 -- what a call newly accepts: at most one packet, at its time, and no repetition of one live
 pub record New (t : ℕ) (past new : List Heard) : Type 0 where

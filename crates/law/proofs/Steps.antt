@@ -1,14 +1,13 @@
 -- A call by its ways: refused, or accepted. Assumes nothing.
-use Rattle.std.proofs.Common.{◌≡◌, ℕ, ◌-◌, ◌≤◌, Bool, true, false, cond, not, ◌&&◌, eqb, leb, List, length, Some, None, Option, sym, refl}
+use Rattle.std.proofs.Common.{◌≡◌, ℕ, ◌≤◌, Bool, true, false, cond, not, ◌&&◌, eqb, leb, List, length, Some, None, Option, sym, refl}
 use Rattle.std.proofs.lemmas.Bool.{or_parts, ltb-false}
 use Rattle.law.proofs.Tables.{none_not_some}
 use Rattle.rules.specs.declared.fault.RouterFault.TheVariants as no-to
-use Rattle.law.specs.Runs.{call, ruled}
-use Rattle.law.specs.Words.{clock}
+use Rattle.law.specs.Runs.{ruled}
 use Rattle.law.specs.World.{Around, Call, Event, Fault, Frame, Outcome, Placing, Request, State, is_some, or_else}
 use Rattle.rules.specs.Known.{find}
 use Rattle.rules.specs.Packets.{source_of}
-use Rattle.rules.specs.Rules.{Step, bad_time, no, our_address, place_fault, places, reader_fault, receive_fault, send_fault, station_fault, step, unless}
+use Rattle.rules.specs.Rules.{Step, bad_time, no, our_address, place_fault, reader_fault, receive_fault, send_fault, station_fault, step, unless}
 use Rattle.rules.specs.Tables.{live_table}
 
 abbrev pub event : List Frame → List Frame → ℕ → Call → Around → Outcome → Event

@@ -1,5 +1,5 @@
 -- The words of the law: what a history alone says was heard, known and taken. Assumes nothing.
-use Rattle.std.specs.Prelude.{ℕ, ◌+◌, ◌-◌, ◌%◌, Bool, false, cond, not, ◌&&◌, ◌||◌, List, [], ◌∷◌, ◌++◌, Some, None, filter, Option, ◌==◌, nat_le}
+use Rattle.std.specs.Prelude.{ℕ, ◌+◌, ◌%◌, Bool, false, cond, not, ◌&&◌, ◌||◌, List, [], ◌∷◌, ◌++◌, Some, None, filter, Option, ◌==◌, nat_le}
 use Rattle.times.specs.Timestamps.{newer}
 use Rattle.link.specs.Addresses.{link_address, same_link}
 use Rattle.rules.specs.Known.{among, last_eight}

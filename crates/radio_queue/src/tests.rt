@@ -39,7 +39,7 @@ fn frames_come_in_the_order_of_sending(rt: HostRuntime) -> Result<(), Fail> {
             count: 3,
         })
     );
-    assert_eq!(rt; &out[0..4], b"\xc0\xff\xee\x07");
+    assert_eq!(rt; &out[0..4], b"\xc0\xff\xee\x07".as_slice());
     let head = queue.take_first(&mut out);
     assert_eq!(rt;
         head,
@@ -48,7 +48,7 @@ fn frames_come_in_the_order_of_sending(rt: HostRuntime) -> Result<(), Fail> {
             count: 1,
         })
     );
-    assert_eq!(rt; &out[0..4], b"\x2a\xff\xee\x07");
+    assert_eq!(rt; &out[0..4], b"\x2a\xff\xee\x07".as_slice());
     assert_eq!(rt; queue.take_first(&mut out), None);
     Ok(())
 }

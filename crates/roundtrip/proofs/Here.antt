@@ -1,5 +1,5 @@
 -- What was read stands where it was read. Assumes nothing.
-use Rattle.std.proofs.Common.{◌≡◌, ℕ, ◌+◌, ◌-◌, ◌^◌, ◌<◌, ◌≤◌, true, ltb, leb, List, length, get_or, ℤ, nat_abs, IfOk, Ok, refl, arith}
+use Rattle.std.proofs.Common.{◌≡◌, ℕ, ◌+◌, ◌^◌, ◌<◌, ◌≤◌, true, ltb, leb, List, length, get_or, ℤ, nat_abs, IfOk, Ok, refl, arith}
 use Rattle.std.proofs.lemmas.Bool.{ltb-false, le-leb, and_from}
 use Rattle.octets.proofs.Signs.{unsigned_signed}
 use Rattle.octets.proofs.Width.{field_small}

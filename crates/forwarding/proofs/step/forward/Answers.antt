@@ -1,4 +1,4 @@
-use Rattle.std.proofs.Common.{◌≡◌, ℕ, length, vec_items, ap, ◌∙◌}
+use Rattle.std.proofs.Common.{ℕ, length, vec_items, ap, ◌∙◌}
 use Rattle.location_table.specs.Stations.{stations_in}
 use Rattle.fields.specs.declared.position.Position.{Position}
 use Rattle.link.specs.declared.address.LinkAddress.{LinkAddress}

@@ -1,5 +1,5 @@
 use Rattle.std.proofs.Common.{◌+◌, ◌*◌, arith}
-use Rattle.ground.proofs.Newton.{squares_most, sides_above, near_least, near_is}
+use Rattle.ground.proofs.Newton.{squares_most, near_least, near_is}
 use Rattle.ground.specs.Squares.{root_is, least_exact}
 use Rattle.ground.proofs.root.hypotenuse.Goals as goal
 

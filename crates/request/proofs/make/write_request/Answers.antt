@@ -1,4 +1,4 @@
-use Rattle.std.proofs.Common.{◌≡◌, ℕ, cond, List, take, is_ok, IfOk, Ok, Result, ap, ◌∙◌, subst}
+use Rattle.std.proofs.Common.{◌≡◌, cond, take, is_ok, IfOk, Ok, ap, ◌∙◌, subst}
 use Rattle.octets.specs.Wire.{placed}
 use Rattle.packets.specs.Contents.{Content, content}
 use Rattle.packets.specs.Reading.{reading}

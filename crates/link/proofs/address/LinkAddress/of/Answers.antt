@@ -1,4 +1,4 @@
-use Rattle.std.proofs.Common.{◌≡◌, ℕ, List, [], ◌∷◌, get_or, ap, ◌∙◌}
+use Rattle.std.proofs.Common.{ℕ, List, [], ◌∷◌, get_or, ap, ◌∙◌}
 use Rattle.link.specs.declared.address.LinkAddress.{LinkAddress}
 use Rattle.link.proofs.Sixes.{last_six}
 use Rattle.link.proofs.address.LinkAddress.of.Goals as goal

@@ -1,8 +1,8 @@
-use Rattle.std.proofs.Common.{◌≡◌, List, Some, sym, ap, ◌∙◌, arith}
+use Rattle.std.proofs.Common.{List, Some, sym, ap, ◌∙◌, arith}
 use Rattle.link.specs.Addresses.{link_address}
 use Rattle.link.specs.declared.address.LinkAddress.{LinkAddress}
 use Rattle.location_table.specs.Neighbours.{nth}
-use Rattle.location_table.specs.Stations.{Station, station_in, stations_in}
+use Rattle.location_table.specs.Stations.{Station}
 use Rattle.location_table.proofs.Marked.{rest-takes, rest-passes, rest-ends, nth_first, nth-next}
 use Rattle.location_table.proofs.table.neighbours.address_at.Goals as goal
 use Rattle.location_table.proofs.table.neighbours.address_at.Goals.{then-entry+else-left-eq0, else-entry}

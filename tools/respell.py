@@ -18,6 +18,7 @@ Every-run-is-lawful=EveryRunIsLawful First-cancelled=FirstCancelled First-fittin
 Met-by=MetBy Motion-read=MotionRead Motion-written=MotionWritten Nearer-if=NearerIf Old-fate=OldFate One-lower=OneLower One-lower-by=OneLowerBy
 One-octet=OneOctet Only-receives-deliver=OnlyReceivesDeliver Only-receives-deliver-by=OnlyReceivesDeliverBy Opening-bears-the-law=OpeningBearsTheLaw
 Pretenders-are-caught=PretendersAreCaught Read-written=ReadWritten Rules-agree=RulesAgree Stays-lawful=StaysLawful The-example=TheExample
+Nearest-ourselves=NearestOurselves best-from=best_from waitFor=wait_for
 Upper-read=UpperRead Upper-written=UpperWritten Written-read=WrittenRead accurateIn=accurate_in address-of=address_of again-too-soon=again_too_soon
 aged-cancelled=aged_cancelled aged-fate=aged_fate aged-left=aged_left aged-let-go=aged_let_go aged-moved=aged_moved aged-old=aged_old
 aged-one=aged_one aged-pair=aged_pair aged-serials=aged_serials aged-taking=aged_taking aged-waiting=aged_waiting all-at=all_at all-below=all_below
@@ -74,7 +75,7 @@ near-least=near_least never-refused=never_refused new-table=new_table newcomer-b
 newly-new=newly_new newly-other=newly_other newly-own=newly_own newly-repeated=newly_repeated next-square=next_square nextHeaderRow=next_header_row
 nil-not-cons=nil_not_cons nil-not-mid=nil_not_mid nine-and-nine=nine_and_nine no-cancelled=no_cancelled no-left=no_left no-let-go=no_let_go
 no-space=no_space no-vector=no_vector noCommon=no_common noFields=no_fields noVector=no_vector none-begins=none_begins none-new=none_new
-none-not=none_not none-not-some=none_not_some not-above=not_above not-false=not_false not-it=not_it not-longer=not_longer not-read=not_read
+none-not=none_not none-not-some=none_not_some not-above=not_above not-it=not_it not-longer=not_longer not-read=not_read
 not-redirected=not_redirected not-refused=not_refused not-two=not_two noted-addresses=noted_addresses noted-own=noted_own
 notice-passed-on=notice_passed_on nth-first=nth_first number-all=number_all number-here=number_here number-kept=number_kept
 number-octets=number_octets number-other=number_other number-stands=number_stands numberFrom=number_from numbers-append=numbers_append

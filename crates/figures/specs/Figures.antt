@@ -2,7 +2,7 @@
 use Rattle.std.specs.Prelude.{◌≡◌, ℕ, ◌<◌, ◌≤◌, true, false, ◌-ℤ◌, unsigned_abs}
 use Rattle.fields.specs.declared.position.Position.{Position}
 use Rattle.ground.specs.Spans.{straight, inside}
-use Rattle.policy.specs.Choices.{waitFor}
+use Rattle.policy.specs.Choices.{wait_for}
 use Rattle.times.specs.Lifetimes.{lifetime_of, Best}
 use Rattle.times.specs.Timestamps.{newer}
 
@@ -21,8 +21,8 @@ pub record Figures : Type 0 where
   pub wrapped : newer 0 4294967295 ≡ true
   pub half : newer 2147483648 0 ≡ false
   -- how long contention waits at a progress
-  pub first_progress : waitFor 1 ≡ 100
-  pub full_progress : waitFor 10000 ≡ 1
+  pub first_progress : wait_for 1 ≡ 100
+  pub full_progress : wait_for 10000 ≡ 1
   -- the straight way at the equator's scale, wherever the two positions are: 9 and 9, and 100,000 to the north
   pub nines : (p q : Position) → unsigned_abs (p.latitude -ℤ q.latitude) ≡ 9 → unsigned_abs (p.longitude -ℤ q.longitude) ≡ 9 → straight 1113 p q ≡ 2
   pub northward : (p q : Position) → unsigned_abs (p.latitude -ℤ q.latitude) ≡ 100000 → p.longitude ≡ q.longitude → straight 1113 p q ≡ 11130

@@ -1,6 +1,6 @@
 -- The neighbour that a policy names is nearer than we are. Assumes nothing.
 use Rattle.std.proofs.Common.{◌≡◌, ℕ, zero, suc, ◌<◌, Bool, true, false, List, [], ◌∷◌, ◌++◌, length, get_or, pos, IfNone, Some, None, Option, unwrap_or, sym, refl, ap, ◌∙◌, subst, append-nil, arith}
-use Rattle.std.specs.List.{ContainsAt as Has}
+use Rattle.std.specs.List.{ContainsAt}
 use Rattle.std.proofs.ByRecursion.{all_has_itself, all_kept_by, kept_by_passes, All-get_or}
 use Rattle.std.proofs.lemmas.List.{length-map, get_or-map}
 use Rattle.fields.specs.declared.position.Position.{Position}
@@ -37,7 +37,7 @@ module _ (span : Position → ℕ) (ours : Position) (sender : Option ℕ) (ss :
       let near = neighbours ss in
       record {
         station = get_or near i blank;
-        known = All-get_or (Has ss) near i blank within (all_kept_by _ (Has ss) ss (all_has_itself ss));
+        known = All-get_or (ContainsAt ss) near i blank within (all_kept_by _ (ContainsAt ss) ss (all_has_itself ss));
         marked = All-get_or (λ s. s.neighbour ≡ true) near i blank within (kept_by_passes _ ss);
         addressed = sym (get_or-map (λ (s : Station). link_address s.vector.address) near i blank nobody within);
         nearer = omega (arith, h.1, get_or-map (λ (s : Station). span s.vector.position) near i blank 0 within);

@@ -1,6 +1,6 @@
 -- What a choice comes to. Assumes nothing.
 use Rattle.std.specs.Prelude.{◌≡◌, ℕ, ◌<◌, Bool, true, cond, List, [], ◌∷◌, slice_index_or}
-use Rattle.std.specs.List.{ContainsAt as Has}
+use Rattle.std.specs.List.{ContainsAt}
 use Rattle.fields.specs.declared.position.Position.{Position}
 use Rattle.link.specs.Addresses.{link_address, broadcast, nobody}
 use Rattle.link.specs.Frames.{Frame, frame}
@@ -52,7 +52,7 @@ Untouched NoSpace before after = Unit {0}
 -- are
 pub record Carrier (span : Position → ℕ) (ours : Position) (stations : List Station) (to : LinkAddress) : Type 0 where
   pub station : Station
-  pub known : Has stations station
+  pub known : ContainsAt stations station
   pub marked : station.neighbour ≡ true
   pub addressed : link_address station.vector.address ≡ to
   pub nearer : span station.vector.position < span ours

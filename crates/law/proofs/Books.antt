@@ -1,6 +1,6 @@
 -- (b) Each packet taken has one fate: the books, kept call by call. Assumes nothing.
 use Rattle.std.proofs.Common.{◌≡◌, ℕ, suc, ◌+◌, ◌-◌, ◌<◌, ◌≤◌, Bool, true, false, cond, not, eqb, leb, List, [], ◌∷◌, ◌++◌, map, length, Some, filter, sym, refl, ap, ◌∙◌, subst, arith}
-use Rattle.std.specs.List.{AllByRecursion as All}
+use Rattle.std.specs.List.{AllByRecursion}
 use Rattle.std.proofs.lemmas.List.Elements.{filter-append}
 use Rattle.std.proofs.ByRecursion.{All-weaker, All-push}
 use Rattle.std.proofs.lemmas.List.{append-nil, map-append, length-append, append_assoc, length-map}
@@ -293,12 +293,12 @@ met_kept h f k (cancelled j) m = later_kept h f k.serial j (Cancelled k.what) m
 met_kept h f k (let_go j) m = later_kept h f k.serial j (LetGo k.what) m
 met_kept h f k waits m = omega arith
 
-pub all_met_kept : (h : History) (f : Event) (fs : List Fated) → All (λ x. MetBy h x.taking x.fate) fs → All (λ x. MetBy (f ∷ h) x.taking x.fate) fs
+pub all_met_kept : (h : History) (f : Event) (fs : List Fated) → AllByRecursion (λ x. MetBy h x.taking x.fate) fs → AllByRecursion (λ x. MetBy (f ∷ h) x.taking x.fate) fs
 all_met_kept h f fs a = All-weaker (λ x. MetBy h x.taking x.fate) (λ x. MetBy (f ∷ h) x.taking x.fate) (λ x m. met_kept h f x.taking x.fate m) fs a
 
 -- nobody has met a fate by a call that is yet to come
 none_yet : (h : History) (g : Fate) → ((k : Taking) (f : Fate) → MetBy h k f → same_fate f g ≡ false)
-    → (fs : List Fated) → All (λ x. MetBy h x.taking x.fate) fs → tally g fs ≡ 0
+    → (fs : List Fated) → AllByRecursion (λ x. MetBy h x.taking x.fate) fs → tally g fs ≡ 0
 none_yet h g not [] a = refl
 none_yet h g not (f ∷ fs) a =
     let z : ◌≡◌ {A = ℕ} (cond (same_fate f.fate g) 1 0) 0 = ap (λ k. cond k 1 0) (not f.taking f.fate a.0) in
@@ -367,33 +367,33 @@ module _ (h : History) (t : ℕ) (c : Call) (r : Around) (xb xa : List Frame) (a
         that = record { answer = a; accepting = refl; short = leb-false (t + 50) (k.what.since + life k.what) z };
       }
 
-  aged-met : (fs : List Fated) → All (λ x. MetBy h x.taking x.fate) fs → All (λ x. MetBy (e ∷ h) x.taking x.fate) (map (aged t (length h)) fs)
+  aged-met : (fs : List Fated) → AllByRecursion (λ x. MetBy h x.taking x.fate) fs → AllByRecursion (λ x. MetBy (e ∷ h) x.taking x.fate) (map (aged t (length h)) fs)
   aged-met [] m = tt
   aged-met (f ∷ fs) m = (aged-met-one f.taking f.fate m.0, aged-met fs m.1)
 
-aged_serials : (h : History) (t J : ℕ) (fs : List Fated) → All (λ x. MetBy h x.taking x.fate) fs → All (λ x. x.taking.serial < length h) (map (aged t J) fs)
+aged_serials : (h : History) (t J : ℕ) (fs : List Fated) → AllByRecursion (λ x. MetBy h x.taking x.fate) fs → AllByRecursion (λ x. x.taking.serial < length h) (map (aged t J) fs)
 aged_serials h t J [] m = tt
 aged_serials h t J (f ∷ fs) m = (met_serial h f.taking f.fate m.0, aged_serials h t J fs m.1)
 
 -- lists with one in the middle
-mid_all : {X : Type 0} (P : X → Type 0) (xs : List X) (y : X) (ys : List X) → All P (xs ++ (y ∷ ys)) → P y
+mid_all : {X : Type 0} (P : X → Type 0) (xs : List X) (y : X) (ys : List X) → AllByRecursion P (xs ++ (y ∷ ys)) → P y
 mid_all P [] y ys a = a.0
 mid_all P (x ∷ xs) y ys a = mid_all P xs y ys a.1
 
-mid_new : {X : Type 0} (P : X → Type 0) (xs : List X) (y z : X) (ys : List X) → All P (xs ++ (y ∷ ys)) → P z → All P (xs ++ (z ∷ ys))
+mid_new : {X : Type 0} (P : X → Type 0) (xs : List X) (y z : X) (ys : List X) → AllByRecursion P (xs ++ (y ∷ ys)) → P z → AllByRecursion P (xs ++ (z ∷ ys))
 mid_new P [] y z ys a p = (p, a.1)
 mid_new P (x ∷ xs) y z ys a p = (a.0, mid_new P xs y z ys a.1 p)
 
-mid_out : {X : Type 0} (P : X → Type 0) (xs : List X) (y : X) (ys : List X) → All P (xs ++ (y ∷ ys)) → All P (xs ++ ys)
+mid_out : {X : Type 0} (P : X → Type 0) (xs : List X) (y : X) (ys : List X) → AllByRecursion P (xs ++ (y ∷ ys)) → AllByRecursion P (xs ++ ys)
 mid_out P [] y ys a = a.1
 mid_out P (x ∷ xs) y ys a = (a.0, mid_out P xs y ys a.1)
 
 -- those that last
-last_both : (t c : ℕ) (xs : List Taken) → c ≤ t → All (Lasting c) xs → All (Lasting t) (filter (lasts_at t) xs)
+last_both : (t c : ℕ) (xs : List Taken) → c ≤ t → AllByRecursion (Lasting c) xs → AllByRecursion (Lasting t) (filter (lasts_at t) xs)
 last_both t c [] l a = tt
 last_both t c (x ∷ xs) l a = go (lasts_at t x) refl (last_both t c xs l a.1)
   where
-    go : (b : Bool) → lasts_at t x ≡ b → All (Lasting t) (filter (lasts_at t) xs) → All (Lasting t) (cond b (x ∷ filter (lasts_at t) xs) (filter (lasts_at t) xs))
+    go : (b : Bool) → lasts_at t x ≡ b → AllByRecursion (Lasting t) (filter (lasts_at t) xs) → AllByRecursion (Lasting t) (cond b (x ∷ filter (lasts_at t) xs) (filter (lasts_at t) xs))
     go true z more = ((omega (arith, a.0.0), leb-true (t + 50) (x.since + life x) z), more)
     go false z more = more
 
@@ -434,7 +434,7 @@ OldFate J (cancelled i) = i < J
 OldFate J (let_go i) = i ≤ J
 OldFate J waits = Unit {0}
 
-aged_old : (h : History) (t : ℕ) (fs : List Fated) → All (λ x. MetBy h x.taking x.fate) fs → All (λ x. OldFate (length h) x.fate) (map (aged t (length h)) fs)
+aged_old : (h : History) (t : ℕ) (fs : List Fated) → AllByRecursion (λ x. MetBy h x.taking x.fate) fs → AllByRecursion (λ x. OldFate (length h) x.fate) (map (aged t (length h)) fs)
 aged_old h t [] m = tt
 aged_old h t (f ∷ fs) m = (one f.taking f.fate (lasts_at t f.taking.what) m.0, aged_old h t fs m.1)
   where
@@ -462,15 +462,15 @@ aged_pair t J f g r j q c = go f.fate (lasts_at t f.taking.what) (r j (was g.fat
     go (let_go i) b e = e
     go waits b e = absurd e
 
-all_any : {X : Type 0} (P : X → Type 0) (xs : List X) → ((x : X) → P x) → All P xs
+all_any : {X : Type 0} (P : X → Type 0) (xs : List X) → ((x : X) → P x) → AllByRecursion P xs
 all_any P [] h = tt
 all_any P (x ∷ xs) h = (h x, all_any P xs h)
 
-all_front : {X : Type 0} (P : X → Type 0) (xs ys : List X) → All P (xs ++ ys) → All P xs
+all_front : {X : Type 0} (P : X → Type 0) (xs ys : List X) → AllByRecursion P (xs ++ ys) → AllByRecursion P xs
 all_front P [] ys a = tt
 all_front P (x ∷ xs) ys a = (a.0, all_front P xs ys a.1)
 
-all_map : (P : Taken → Type 0) (vs : List Waiter) → All (λ v. P (seen v)) vs → All P (map seen vs)
+all_map : (P : Taken → Type 0) (vs : List Waiter) → AllByRecursion (λ v. P (seen v)) vs → AllByRecursion P (map seen vs)
 all_map P [] a = tt
 all_map P (v ∷ vs) a = (a.0, all_map P vs a.1)
 
@@ -486,8 +486,8 @@ module _ (w : Start) (h : History) (s : State) (t : ℕ) (c : Call) (r : Around)
   aged-line : waiting_in aged-fates ≡ map seen (live_line t s)
   aged-line = aged_waiting t (length h) B.fates ∙ ap (filter (lasts_at t)) B.line ∙ kept_map t s.line
 
-  aged-lasting : All (Lasting t) (waiting_in aged-fates)
-  aged-lasting = subst (All (Lasting t)) (sym (aged_waiting t (length h) B.fates)) (last_both t (clock w h) (waiting_in B.fates) later B.lasting)
+  aged-lasting : AllByRecursion (Lasting t) (waiting_in aged-fates)
+  aged-lasting = subst (AllByRecursion (Lasting t)) (sym (aged_waiting t (length h) B.fates)) (last_both t (clock w h) (waiting_in B.fates) later B.lasting)
 
   lost-sum : lost_in t B.fates + length (live_line t s) ≡ length s.line
   lost-sum =
@@ -501,10 +501,10 @@ module _ (w : Start) (h : History) (s : State) (t : ℕ) (c : Call) (r : Around)
   record Next (line' : List Waiter) : Type 0 where
     fates : List Fated
     each : map (λ f. f.taking) fates ≡ takings w (call-now ∷ h)
-    met : All (λ f. MetBy (call-now ∷ h) f.taking f.fate) fates
+    met : AllByRecursion (λ f. MetBy (call-now ∷ h) f.taking f.fate) fates
     moved : Moved (length h) (lefts call-now) (cancelleds call-now) (lost_in t B.fates) B.fates fates
     line : waiting_in fates ≡ map seen line'
-    lasting : All (Lasting t) (waiting_in fates)
+    lasting : AllByRecursion (Lasting t) (waiting_in fates)
     earliest : Pairs FirstCancelled fates
 
   no_takes : takes w call-now h ≡ [] → takings w h ≡ takings w (call-now ∷ h)
@@ -525,50 +525,50 @@ module _ (w : Start) (h : History) (s : State) (t : ℕ) (c : Call) (r : Around)
     its-serial : the-split.it.taking.serial < length h
     its-serial =
         mid_all (λ f. f.taking.serial < length h) the-split.front the-split.it the-split.back
-        (subst (All (λ f. f.taking.serial < length h)) the-split.whole (aged_serials h t (length h) B.fates B.met))
+        (subst (AllByRecursion (λ f. f.taking.serial < length h)) the-split.whole (aged_serials h t (length h) B.fates B.met))
 
-    its-met : (g : Fate) → MetBy (call-now ∷ h) the-split.it.taking g → All (λ f. MetBy (call-now ∷ h) f.taking f.fate) (struck-list the-split g)
+    its-met : (g : Fate) → MetBy (call-now ∷ h) the-split.it.taking g → AllByRecursion (λ f. MetBy (call-now ∷ h) f.taking f.fate) (struck-list the-split g)
     its-met g m =
         mid_new (λ f. MetBy (call-now ∷ h) f.taking f.fate) the-split.front the-split.it (now-it the-split g) the-split.back
-        (subst (All (λ f. MetBy (call-now ∷ h) f.taking f.fate)) the-split.whole (aged-met h t c r xb xa a B.fates B.met)) m
+        (subst (AllByRecursion (λ f. MetBy (call-now ∷ h) f.taking f.fate)) the-split.whole (aged-met h t c r xb xa a B.fates B.met)) m
 
     its-line : (g : Fate) → one_waiting g the-split.it.taking.what ≡ [] → waiting_in (struck-list the-split g) ≡ map seen (before ++ after)
     its-line g n = struck-waiting the-split g n ∙ sym (map-append seen before after)
 
-    its-lasting : (g : Fate) → one_waiting g the-split.it.taking.what ≡ [] → All (Lasting t) (waiting_in (struck-list the-split g))
+    its-lasting : (g : Fate) → one_waiting g the-split.it.taking.what ≡ [] → AllByRecursion (Lasting t) (waiting_in (struck-list the-split g))
     its-lasting g n =
-        subst (All (Lasting t)) (sym (struck-waiting the-split g n))
+        subst (AllByRecursion (Lasting t)) (sym (struck-waiting the-split g n))
         (mid_out (Lasting t) (map seen before) (seen v) (map seen after)
-        (subst (All (Lasting t)) (aged-line ∙ ap (map seen) whole ∙ map-append seen before (v ∷ after)) aged-lasting))
+        (subst (AllByRecursion (Lasting t)) (aged-line ∙ ap (map seen) whole ∙ map-append seen before (v ∷ after)) aged-lasting))
 
     split-pairs : Pairs FirstCancelled (the-split.front ++ (the-split.it ∷ the-split.back))
     split-pairs = subst (Pairs FirstCancelled) the-split.whole aged-earliest
 
-    back_fits : (g : Fate) → All (FirstCancelled the-split.it) the-split.back → All (FirstCancelled (now-it the-split g)) the-split.back
+    back_fits : (g : Fate) → AllByRecursion (FirstCancelled the-split.it) the-split.back → AllByRecursion (FirstCancelled (now-it the-split g)) the-split.back
     back_fits g a = All-weaker (FirstCancelled the-split.it) (FirstCancelled (now-it the-split g)) (λ k r. behind_waiting the-split.it k the-split.waited (now-it the-split g) refl r) the-split.back a
 
     its-pairs : (g : Fate) → ((f : Fated) → FirstCancelled f (now-it the-split g)) → Pairs FirstCancelled (struck-list the-split g)
     its-pairs g any = pairs-mid FirstCancelled the-split.front the-split.it (now-it the-split g) the-split.back split-pairs (all_any (λ f. FirstCancelled f (now-it the-split g)) the-split.front any) (back_fits g)
 
     -- those in front of the cancelled one: none of them is a copy that still waits
-    front-met : All (λ f. MetBy (call-now ∷ h) f.taking f.fate) the-split.front
+    front-met : AllByRecursion (λ f. MetBy (call-now ∷ h) f.taking f.fate) the-split.front
     front-met = all_front (λ f. MetBy (call-now ∷ h) f.taking f.fate) the-split.front (the-split.it ∷ the-split.back)
-        (subst (All (λ f. MetBy (call-now ∷ h) f.taking f.fate)) the-split.whole (aged-met h t c r xb xa a B.fates B.met))
+        (subst (AllByRecursion (λ f. MetBy (call-now ∷ h) f.taking f.fate)) the-split.whole (aged-met h t c r xb xa a B.fates B.met))
 
-    front-old : All (λ f. OldFate (length h) f.fate) the-split.front
+    front-old : AllByRecursion (λ f. OldFate (length h) f.fate) the-split.front
     front-old = all_front (λ f. OldFate (length h) f.fate) the-split.front (the-split.it ∷ the-split.back)
-        (subst (All (λ f. OldFate (length h) f.fate)) the-split.whole (aged_old h t B.fates B.met))
+        (subst (AllByRecursion (λ f. OldFate (length h) f.fate)) the-split.whole (aged_old h t B.fates B.met))
 
-    its-first : All (λ u. Copies (seen u) (seen v) → ⊥) before → Pairs FirstCancelled (struck-list the-split (cancelled (length h)))
+    its-first : AllByRecursion (λ u. Copies (seen u) (seen v) → ⊥) before → Pairs FirstCancelled (struck-list the-split (cancelled (length h)))
     its-first first =
         pairs-mid FirstCancelled the-split.front the-split.it (now-it the-split (cancelled (length h))) the-split.back split-pairs
         (front-first the-split.front (waiting_among (λ x. Copies x the-split.it.taking.what → ⊥) the-split.front
-        (subst (All (λ x. Copies x the-split.it.taking.what → ⊥)) (sym the-split.front_waits)
-        (subst (λ y. All (λ x. Copies x y → ⊥) (map seen before)) (sym the-split.is_it) (all_map (λ x. Copies x (seen v) → ⊥) before first)))) front-old)
+        (subst (AllByRecursion (λ x. Copies x the-split.it.taking.what → ⊥)) (sym the-split.front_waits)
+        (subst (λ y. AllByRecursion (λ x. Copies x y → ⊥) (map seen before)) (sym the-split.is_it) (all_map (λ x. Copies x (seen v) → ⊥) before first)))) front-old)
         (back_fits (cancelled (length h)))
       where
-        front-first : (fs : List Fated) → All (λ f. f.fate ≡ waits → Copies f.taking.what the-split.it.taking.what → ⊥) fs → All (λ f. OldFate (length h) f.fate) fs
-            → All (λ f. FirstCancelled f (now-it the-split (cancelled (length h)))) fs
+        front-first : (fs : List Fated) → AllByRecursion (λ f. f.fate ≡ waits → Copies f.taking.what the-split.it.taking.what → ⊥) fs → AllByRecursion (λ f. OldFate (length h) f.fate) fs
+            → AllByRecursion (λ f. FirstCancelled f (now-it the-split (cancelled (length h)))) fs
         front-first [] n o = tt
         front-first (f ∷ fs) n o = (before_cancelled (length h) f (now-it the-split (cancelled (length h))) refl (λ k. ended f.fate refl o.0 (λ q. n.0 q k)), front-first fs n.1 o.1)
           where
@@ -603,7 +603,7 @@ module _ (w : Start) (h : History) (s : State) (t : ℕ) (c : Call) (r : Around)
         met = All-push (λ f. MetBy (call-now ∷ h) f.taking f.fate) aged-fates new (aged-met h t c r xb xa a B.fates B.met) (omega arith);
         moved = moved_as (moved_then (aged_moved t (length h) B.fates) (push_moved (length h) aged-fates (record { serial = length h; what = seen v }))) (sym l) (sym c') (omega arith);
         line = w₁ ∙ sym (map-append seen (live_line t s) (v ∷ []));
-        lasting = subst (All (Lasting t)) (sym w₁) (All-push (Lasting t) (map seen (live_line t s)) (seen v) (subst (All (Lasting t)) aged-line aged-lasting) n);
+        lasting = subst (AllByRecursion (Lasting t)) (sym w₁) (All-push (Lasting t) (map seen (live_line t s)) (seen v) (subst (AllByRecursion (Lasting t)) aged-line aged-lasting) n);
         earliest = pairs-push FirstCancelled aged-fates new aged-earliest (all_any (λ f. FirstCancelled f new) aged-fates (λ f. before_waiting f new refl));
       }
   next (goes before v after whole l c' k n) = record {
@@ -675,14 +675,14 @@ fates_refused w h s t c r xb xa f B =
     no-takes-refused (send q payload) = refl
     no-takes-refused serve = refl
 
-unmap : (P : Taken → Type 0) (vs : List Waiter) → All P (map seen vs) → All (λ v. P (seen v)) vs
+unmap : (P : Taken → Type 0) (vs : List Waiter) → AllByRecursion P (map seen vs) → AllByRecursion (λ v. P (seen v)) vs
 unmap P [] a = tt
 unmap P (v ∷ vs) a = (a.0, unmap P vs a.1)
 
-pub lives_since : (w : Start) (h : History) (s : State) (t : ℕ) → Fates w h s → clock w h ≤ t → All (λ u. u.since ≤ t) (live_line t s)
+pub lives_since : (w : Start) (h : History) (s : State) (t : ℕ) → Fates w h s → clock w h ≤ t → AllByRecursion (λ u. u.since ≤ t) (live_line t s)
 lives_since w h s t B later =
-    let a : All (Lasting t) (map seen (live_line t s)) =
-    subst (All (Lasting t)) (ap (filter (lasts_at t)) B.line ∙ kept_map t s.line) (last_both t (clock w h) (waiting_in B.fates) later B.lasting) in
+    let a : AllByRecursion (Lasting t) (map seen (live_line t s)) =
+    subst (AllByRecursion (Lasting t)) (ap (filter (lasts_at t)) B.line ∙ kept_map t s.line) (last_both t (clock w h) (waiting_in B.fates) later B.lasting) in
     All-weaker (λ u. Lasting t (seen u)) (λ u. u.since ≤ t) (λ u k. k.0) (live_line t s) (unmap (Lasting t) (live_line t s) a)
 
 pub fates_none : (w : Start) (s : State) → s.line ≡ [] → Fates w [] s

@@ -1,24 +1,24 @@
 -- The copy that a duplicate cancels is the earliest that waits by time. Assumes nothing.
 use Rattle.std.proofs.Common.{◌≡◌, ℕ, List, [], ◌∷◌, ◌++◌, map, sym, refl, ◌∙◌, subst, arith}
-use Rattle.std.specs.List.{AllByRecursion as All}
+use Rattle.std.specs.List.{AllByRecursion}
 use Rattle.law.specs.Fates.{Taken, Taking, Fate, left, cancelled, let_go, waits, Fated, one_waiting, waiting_in, Copies, EndedBefore, FirstCancelled, Pairs}
 
 -- pairs of a list with one more at its end, and with another one in its middle
 module _ {X : Type 0} (R : X → X → Type 0) where
-  all_more : (P : X → Type 0) (xs : List X) (y : X) → All P xs → P y → All P (xs ++ (y ∷ []))
+  all_more : (P : X → Type 0) (xs : List X) (y : X) → AllByRecursion P xs → P y → AllByRecursion P (xs ++ (y ∷ []))
   all_more P [] y a p = (p, tt)
   all_more P (x ∷ xs) y a p = (a.0, all_more P xs y a.1 p)
 
-  pub pairs-push : (xs : List X) (y : X) → Pairs R xs → All (λ x. R x y) xs → Pairs R (xs ++ (y ∷ []))
+  pub pairs-push : (xs : List X) (y : X) → Pairs R xs → AllByRecursion (λ x. R x y) xs → Pairs R (xs ++ (y ∷ []))
   pairs-push [] y p a = (tt, tt)
   pairs-push (x ∷ xs) y p a = (all_more (R x) xs y p.0 a.0, pairs-push xs y p.1 a.1)
 
-  all-mid : (P : X → Type 0) (xs : List X) (y z : X) (ys : List X) → All P (xs ++ (y ∷ ys)) → P z → All P (xs ++ (z ∷ ys))
+  all-mid : (P : X → Type 0) (xs : List X) (y z : X) (ys : List X) → AllByRecursion P (xs ++ (y ∷ ys)) → P z → AllByRecursion P (xs ++ (z ∷ ys))
   all-mid P [] y z ys a p = (p, a.1)
   all-mid P (x ∷ xs) y z ys a p = (a.0, all-mid P xs y z ys a.1 p)
 
   -- the one in the middle changed: what stood before it and behind it has to fit the new one
-  pub pairs-mid : (xs : List X) (y z : X) (ys : List X) → Pairs R (xs ++ (y ∷ ys)) → All (λ x. R x z) xs → (All (R y) ys → All (R z) ys) → Pairs R (xs ++ (z ∷ ys))
+  pub pairs-mid : (xs : List X) (y z : X) (ys : List X) → Pairs R (xs ++ (y ∷ ys)) → AllByRecursion (λ x. R x z) xs → (AllByRecursion (R y) ys → AllByRecursion (R z) ys) → Pairs R (xs ++ (z ∷ ys))
   pairs-mid [] y z ys p a f = (f p.0, p.1)
   pairs-mid (x ∷ xs) y z ys p a f = (all-mid (R x) xs y z ys p.0 a.0, pairs-mid xs y z ys p.1 a.1 f)
 
@@ -27,7 +27,7 @@ pub pairs_map : {X : Type 0} (R : X → X → Type 0) (f : X → X) → ((x y : 
 pairs_map R f h [] p = tt
 pairs_map R f h (x ∷ xs) p = (go xs p.0, pairs_map R f h xs p.1)
   where
-    go : (ys : _) → All (R x) ys → All (R (f x)) (map f ys)
+    go : (ys : _) → AllByRecursion (R x) ys → AllByRecursion (R (f x)) (map f ys)
     go [] a = tt
     go (y ∷ ys) a = (h x y a.0, go ys a.1)
 
@@ -60,12 +60,12 @@ pub before_cancelled : (J : ℕ) (f g : Fated) → g.fate ≡ cancelled J → (C
 before_cancelled J f g e h j q c = subst (λ k. EndedBefore k f.fate) (same_call J j (sym e ∙ q)) (h c)
 
 -- of those in front, the ones that wait are among the waiting
-pub waiting_among : (P : Taken → Type 0) (fs : List Fated) → All P (waiting_in fs) → All (λ f. f.fate ≡ waits → P f.taking.what) fs
+pub waiting_among : (P : Taken → Type 0) (fs : List Fated) → AllByRecursion P (waiting_in fs) → AllByRecursion (λ f. f.fate ≡ waits → P f.taking.what) fs
 waiting_among P [] a = tt
 waiting_among P (f ∷ fs) a = go f.fate refl a (waiting_among P fs)
   where
-    go : (g : Fate) → f.fate ≡ g → All P (one_waiting g f.taking.what ++ waiting_in fs) → (All P (waiting_in fs) → All (λ k. k.fate ≡ waits → P k.taking.what) fs)
-        → All (λ k. k.fate ≡ waits → P k.taking.what) (f ∷ fs)
+    go : (g : Fate) → f.fate ≡ g → AllByRecursion P (one_waiting g f.taking.what ++ waiting_in fs) → (AllByRecursion P (waiting_in fs) → AllByRecursion (λ k. k.fate ≡ waits → P k.taking.what) fs)
+        → AllByRecursion (λ k. k.fate ≡ waits → P k.taking.what) (f ∷ fs)
     go (left j) e a more = (λ q. absurd (let z : ◌≡◌ {A = ℕ} 0 1 = cc in omega arith), more a)
     go (cancelled j) e a more = (λ q. absurd (let z : ◌≡◌ {A = ℕ} 0 1 = cc in omega arith), more a)
     go (let_go j) e a more = (λ q. absurd (let z : ◌≡◌ {A = ℕ} 0 1 = cc in omega arith), more a)

@@ -1,6 +1,6 @@
 -- (a) The table is in order of entry. Assumes nothing.
 use Rattle.std.proofs.Common.{◌≡◌, ℕ, ◌+◌, ◌-◌, ◌≤◌, Bool, true, false, cond, not, ◌&&◌, eqb, leb, List, [], ◌∷◌, ◌++◌, map, length, Some, None, filter, Option, sym, refl, ap, ◌∙◌, subst, arith}
-use Rattle.std.specs.List.{AllByRecursion as All}
+use Rattle.std.specs.List.{AllByRecursion}
 use Rattle.std.proofs.ByRecursion.{All-weaker}
 use Rattle.std.proofs.lemmas.List.{append-nil, length-append, length-map, map-append}
 use Rattle.std.proofs.lemmas.Bool.{leb-false}
@@ -30,7 +30,7 @@ told-live c t a (y ∷ ys) x e = go (leb c (y.time + memory_ms)) e
     go true q = ap (λ k. leb t (k.heard + memory_ms)) (sym (same_some (row y ys) x q))
     go false q = absurd (none_not_some x q)
 
-kept_addresses : (t : ℕ) (f : ℕ → Bool) (xs : List Station) → All (λ x. live t x ≡ f (address_of x)) xs → addresses (filter (live t) xs) ≡ filter f (addresses xs)
+kept_addresses : (t : ℕ) (f : ℕ → Bool) (xs : List Station) → AllByRecursion (λ x. live t x ≡ f (address_of x)) xs → addresses (filter (live t) xs) ≡ filter f (addresses xs)
 kept_addresses t f [] a = refl
 kept_addresses t f (x ∷ xs) a = go (live t x) (f (address_of x)) a.0 (kept_addresses t f xs a.1)
   where

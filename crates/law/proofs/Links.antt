@@ -1,6 +1,6 @@
 -- (c) What the link got, and what the state keeps besides the table. Assumes nothing.
 use Rattle.std.proofs.Common.{◌≡◌, ℕ, ◌+◌, ◌%◌, ◌<◌, ◌≤◌, Bool, true, false, cond, ◌||◌, eqb, ltb, List, [], ◌∷◌, ◌++◌, length, Some, None, Option, sym, refl, ap, ◌∙◌, subst, arith}
-use Rattle.std.specs.List.{AllByRecursion as All}
+use Rattle.std.specs.List.{AllByRecursion}
 use Rattle.std.proofs.lemmas.List.{append-nil}
 use Rattle.std.proofs.ByRecursion.{all-has, All-weaker}
 use Rattle.std.proofs.lemmas.Bool.{eq-eqb, ne_eqb}
@@ -164,7 +164,7 @@ module _ (w : Start) (h : History) (s : State) (t : ℕ) (r : Around) (fs gs : L
   lower-step serve = tt
 
 -- each station of the table is found at its address
-pub found_all : (xs : List Station) → Once xs → All (λ x. find (address_of x) xs ≡ Some x) xs
+pub found_all : (xs : List Station) → Once xs → AllByRecursion (λ x. find (address_of x) xs ≡ Some x) xs
 found_all [] o = tt
 found_all (x ∷ xs) o = (
   find_here (address_of x) x xs (eq-eqb (address_of x) (address_of x) refl),

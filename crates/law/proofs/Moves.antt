@@ -1,6 +1,6 @@
 -- (b) What one call does to the line. Assumes nothing.
 use Rattle.std.proofs.Common.{◌≡◌, ℕ, ◌+◌, ◌≤◌, Bool, true, false, cond, not, ◌&&◌, ◌||◌, eqb, List, [], ◌∷◌, ◌++◌, length, Some, None, Option, sym, refl, ap, ◌∙◌, subst, arith}
-use Rattle.std.specs.List.{AllByRecursion as All}
+use Rattle.std.specs.List.{AllByRecursion}
 use Rattle.std.proofs.lemmas.Bool.{eqb-true, eq-eqb, and_parts, leb-true, and_from, true≢false}
 use Rattle.law.proofs.Tables.{none_not_some}
 use Rattle.law.proofs.Steps.{event, first_passes, Received, sent_later}
@@ -38,7 +38,7 @@ pub data Move (w : Start) (h : History) (e : Event) (lives : List Waiter) : List
   goes : (before : List Waiter) (v : Waiter) (after : List Waiter) → lives ≡ before ++ (v ∷ after) → lefts e ≡ 1 → cancelleds e ≡ 0 → takes w e h ≡ []
       → Left (seen v) e → Move w h e lives (before ++ after)
   struck : (before : List Waiter) (v : Waiter) (after : List Waiter) → lives ≡ before ++ (v ∷ after) → lefts e ≡ 0 → cancelleds e ≡ 1 → takes w e h ≡ []
-      → Cancelled (seen v) e → All (λ u. Copies (seen u) (seen v) → ⊥) before → Move w h e lives (before ++ after)
+      → Cancelled (seen v) e → AllByRecursion (λ u. Copies (seen u) (seen v) → ⊥) before → Move w h e lives (before ++ after)
 
 some_test : (k : Bool) (x : Unit {0}) → ◌≡◌ {A = Option (Unit {0})} (cond k (Some tt) None) (Some x) → k ≡ true
 some_test true x e = refl
@@ -87,7 +87,7 @@ way_kind r own table t v x e = go v.hold e
     go (for-ms ms) z = timed _ z
     go for-neighbour z = advised _ z
 
-all_at : (P : Waiter → Type 0) (before : List Waiter) (v : Waiter) (after : List Waiter) → All P (before ++ (v ∷ after)) → P v
+all_at : (P : Waiter → Type 0) (before : List Waiter) (v : Waiter) (after : List Waiter) → AllByRecursion P (before ++ (v ∷ after)) → P v
 all_at P [] v after a = a.0
 all_at P (u ∷ before) v after a = all_at P before v after a.1
 
@@ -122,7 +122,7 @@ pub record Taker (w : Start) (h : History) (t : ℕ) (r : Around) (fs gs : List 
   pub writes_it : (a : Answer) → p ≡ packet w (event fs gs t c r (accepted a)) h
   pub lasts_it : 50 ≤ lifetime_of (packet_lifetime p)
 
-module _ (w : Start) (h : History) (s : State) (t : ℕ) (r : Around) (fs gs : List Frame) (b : Basics w h s) (l : Table w h s) (old : All (λ u. u.since ≤ t) (live_line t s)) where
+module _ (w : Start) (h : History) (s : State) (t : ℕ) (r : Around) (fs gs : List Frame) (b : Basics w h s) (l : Table w h s) (old : AllByRecursion (λ u. u.since ≤ t) (live_line t s)) where
   abbrev pub Moves : Call → Step → Type 0
   Moves c st = gs ≡ fs ++ st.sent → Move w h (event fs gs t c r st.outcome) (live_line t s) st.state.line
 
@@ -171,7 +171,7 @@ module _ (w : Start) (h : History) (s : State) (t : ℕ) (r : Around) (fs gs : L
 
   -- one that was not let go has 50 ms left
   still-lasts : (before : List Waiter) (v : Waiter) (after : List Waiter) → live_line t s ≡ before ++ (v ∷ after) → t + 50 ≤ v.since + lifetime_of (packet_lifetime v.octets)
-  still-lasts before v after whole = leb-true _ _ (all_at (λ u. lasts t u ≡ true) before v after (subst (All (λ u. lasts t u ≡ true)) whole (kept_by_passes (lasts t) s.line)))
+  still-lasts before v after whole = leb-true _ _ (all_at (λ u. lasts t u ≡ true) before v after (subst (AllByRecursion (λ u. lasts t u ≡ true)) whole (kept_by_passes (lasts t) s.line)))
 
   cancels-moves : (o : List ℕ) (sender : LinkAddress) (k : Pick (Unit {0})) → Picked (copy_of o) (live_line t s) k → Moves (receive o sender) (cancels s t k)
   cancels-moves o sender none p = stays-moves (receive o sender) verdict.Duplicate refl refl refl
@@ -200,7 +200,7 @@ module _ (w : Start) (h : History) (s : State) (t : ℕ) (r : Around) (fs gs : L
         answer = telling s t None (way_verdict x) (before ++ after);
         accepting = refl;
         verdict = way_kind r s.own (live_table t s) t v x way;
-        later = all_at (λ u. u.since ≤ t) before v after (subst (All (λ u. u.since ≤ t)) whole old);
+        later = all_at (λ u. u.since ≤ t) before v after (subst (AllByRecursion (λ u. u.since ≤ t)) whole old);
         lasting = still-lasts before v after whole;
         octet = octet_for (remaining t v);
         best = octet_best (remaining t v);

@@ -1,16 +1,16 @@
 -- The first of a line of which a test says something. Assumes nothing.
 use Rattle.std.proofs.Common.{◌≡◌, List, [], ◌∷◌, ◌++◌, Some, None, Option, refl, ap}
-use Rattle.std.specs.List.{AllByRecursion as All}
+use Rattle.std.specs.List.{AllByRecursion}
 use Rattle.law.specs.World.{Waiter}
 use Rattle.rules.specs.Lines.{Pick, none, one, pick, pick_here}
 
 pub record Chosen {X : Type 0} (f : Waiter → Option X) (ws before : List Waiter) (v : Waiter) (after : List Waiter) (x : X) : Type 0 where
   pub whole : ws ≡ before ++ (v ∷ after)
   pub says : f v ≡ Some x
-  pub first : All (λ u. f u ≡ None) before
+  pub first : AllByRecursion (λ u. f u ≡ None) before
 
 abbrev pub Picked : {X : Type 0} → (Waiter → Option X) → List Waiter → Pick X → Type 0
-Picked f ws none = All (λ u. f u ≡ None) ws
+Picked f ws none = AllByRecursion (λ u. f u ≡ None) ws
 Picked f ws (one before v after x) = Chosen f ws before v after x
 
 pub picked : {X : Type 0} (f : Waiter → Option X) (ws : List Waiter) → Picked f ws (pick f ws)

@@ -1,6 +1,6 @@
 -- (c) A number is delivered again only after eight others or after a silence: a fact about histories alone. Assumes nothing.
 use Rattle.std.proofs.Common.{◌≡◌, ℕ, zero, suc, ◌+◌, ◌-◌, ◌<◌, ◌≤◌, Bool, true, false, cond, not, ◌&&◌, ◌||◌, eqb, ◌⊎◌, List, [], ◌∷◌, ◌++◌, length, drop, Some, None, Option, sym, refl, ap, ◌∙◌, subst, inl, inr, ⊎_elim, arith}
-use Rattle.std.specs.List.{AllByRecursion as All}
+use Rattle.std.specs.List.{AllByRecursion}
 use Rattle.std.proofs.lemmas.List.{append-nil, append_assoc, drop-drop, drop_at, drop-append-le, length-append, length-drop}
 use Rattle.std.proofs.lemmas.Bool.{eq-eqb, eqb-false, ne_eqb, or_parts, or_left, or_right, or_from, leb-false, true≢false, cases_lt}
 use Rattle.law.proofs.Tables.{last_eight_more}
@@ -122,7 +122,7 @@ last_behind us vs l =
     let e : length (us ++ vs) - 8 ≡ length us + (length vs - 8) = omega (arith, k) in
     ap (λ m. drop m (us ++ vs)) e ∙ sym (drop-drop (length vs - 8) (length us) (us ++ vs)) ∙ ap (drop (length vs - 8)) (drop_at us vs (length us) refl)
 
-all_among : (xs ys : List ℕ) → ((m : ℕ) → among m ys ≡ true → among m xs ≡ true) → All (λ m. among m xs ≡ true) ys
+all_among : (xs ys : List ℕ) → ((m : ℕ) → among m ys ≡ true → among m xs ≡ true) → AllByRecursion (λ m. among m xs ≡ true) ys
 all_among xs [] f = tt
 all_among xs (y ∷ ys) f = (f y (or_left (eqb y y) (among y ys) (eq-eqb y y refl)), all_among xs ys (λ m e. f m (or_right (eqb m y) (among m ys) e)))
 

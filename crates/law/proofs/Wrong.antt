@@ -1,6 +1,6 @@
 -- Histories that no lawful router has. Assumes nothing.
 use Rattle.std.proofs.Common.{◌≡◌, ℕ, ◌+◌, ◌<◌, ◌≤◌, Bool, true, false, cond, ◌||◌, eqb, leb, List, [], ◌∷◌, ◌++◌, length, Some, None, Option, sym, refl, ap, ◌∙◌, subst, inl, inr, arith}
-use Rattle.std.specs.List.{AllByRecursion as All}
+use Rattle.std.specs.List.{AllByRecursion}
 use Rattle.std.proofs.ByRecursion.{All-weaker}
 use Rattle.std.proofs.lemmas.List.{append-nil, length-append}
 use Rattle.std.proofs.lemmas.Bool.{true≢false, false≢true, le-ltb, lt-leb, or_from, or_left, or_right, eqb-true, eqb-false, ne_eqb}
@@ -119,22 +119,22 @@ still_among m n (x ∷ xs) d e = go (eqb n x) refl (eqb m x) refl e (still_among
     go false p true q k more = or_left _ _ q
     go false p false q k more = or_right _ _ (more k)
 
-all_other : (n : ℕ) (xs : List ℕ) → among n xs ≡ false → All (λ m. eqb m n ≡ false) xs
+all_other : (n : ℕ) (xs : List ℕ) → among n xs ≡ false → AllByRecursion (λ m. eqb m n ≡ false) xs
 all_other n [] e = tt
 all_other n (x ∷ xs) e = go (eqb n x) refl e (all_other n xs)
   where
-    go : (b : Bool) → eqb n x ≡ b → (b || among n xs) ≡ false → (among n xs ≡ false → All (λ m. eqb m n ≡ false) xs) → All (λ m. eqb m n ≡ false) (x ∷ xs)
+    go : (b : Bool) → eqb n x ≡ b → (b || among n xs) ≡ false → (among n xs ≡ false → AllByRecursion (λ m. eqb m n ≡ false) xs) → AllByRecursion (λ m. eqb m n ≡ false) (x ∷ xs)
     go true p q more = absurd (true≢false q)
     go false p q more = (ne_eqb x n (λ z. eqb-false n x p (sym z)), more q)
 
-both : (P Q : ℕ → Type 0) (xs : List ℕ) → All P xs → All Q xs → All (λ x. P x × Q x) xs
+both : (P Q : ℕ → Type 0) (xs : List ℕ) → AllByRecursion P xs → AllByRecursion Q xs → AllByRecursion (λ x. P x × Q x) xs
 both P Q [] a b = tt
 both P Q (x ∷ xs) a b = ((a.0, b.0), both P Q xs a.1 b.1)
 
-different_few : (xs ys : List ℕ) → Different xs → All (λ m. among m ys ≡ true) xs → length xs ≤ length ys
+different_few : (xs ys : List ℕ) → Different xs → AllByRecursion (λ m. among m ys ≡ true) xs → length xs ≤ length ys
 different_few [] ys d a = omega arith
 different_few (x ∷ xs) ys d a =
-    let rest : All (λ m. among m (without x ys) ≡ true) xs =
+    let rest : AllByRecursion (λ m. among m (without x ys) ≡ true) xs =
     All-weaker (λ m. (eqb m x ≡ false) × (among m ys ≡ true)) (λ m. among m (without x ys) ≡ true) (λ m k. still_among m x ys k.0 k.1) xs
     (both (λ m. eqb m x ≡ false) (λ m. among m ys ≡ true) xs (all_other x xs d.0) a.1) in
     let less = different_few xs (without x ys) d.1 rest in

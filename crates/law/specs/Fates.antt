@@ -1,6 +1,6 @@
 -- (b) What becomes of each packet that was taken to wait. Assumes nothing.
 use Rattle.std.specs.Prelude.{◌≡◌, ℕ, ◌+◌, ◌-◌, ◌<◌, ◌≤◌, Bool, true, false, cond, ◌||◌, List, [], ◌∷◌, ◌++◌, map, length, Some, None, Option, ◌==◌, slice_set}
-use Rattle.std.specs.List.{AllByRecursion as All}
+use Rattle.std.specs.List.{AllByRecursion}
 use Rattle.times.specs.Lifetimes.{lifetime_of, Best}
 use Rattle.rules.specs.Packets.{hops_of, packet_lifetime, number_of, same_number, source_of}
 use Rattle.rules.specs.World.{waits_by_time}
@@ -187,13 +187,13 @@ FirstCancelled f g = (j : ℕ) → g.fate ≡ cancelled j → Copies f.taking.wh
 -- each of a list with each that follows it
 abbrev pub Pairs : {X : Type 0} → (X → X → Type 0) → List X → Type 0
 Pairs R [] = Unit {0}
-Pairs R (x ∷ xs) = All (R x) xs × Pairs R xs
+Pairs R (x ∷ xs) = AllByRecursion (R x) xs × Pairs R xs
 
 pub record Fates (w : Start) (h : History) (s : State) : Type 0 where
   -- each packet taken has one fate
   pub fates : List Fated
   pub each_taken : map (λ f. f.taking) fates ≡ takings w h
-  pub met : All (λ f. MetBy h f.taking f.fate) fates
+  pub met : AllByRecursion (λ f. MetBy h f.taking f.fate) fates
   -- each call's answer counts those that met theirs by it
   pub left_by : (j : ℕ) (e : Event) → call_at h j ≡ Some e → tally (left j) fates ≡ lefts e
   pub cancelled_by : (j : ℕ) (e : Event) → call_at h j ≡ Some e → tally (cancelled j) fates ≡ cancelleds e
@@ -202,7 +202,7 @@ pub record Fates (w : Start) (h : History) (s : State) : Type 0 where
   pub earliest : Pairs FirstCancelled fates
   -- the others are the line, in order, each with 50 ms or more left, and as many as the last accepted answer says
   pub line : waiting_in fates ≡ map seen s.line
-  pub lasting : All (Lasting (clock w h)) (waiting_in fates)
+  pub lasting : AllByRecursion (Lasting (clock w h)) (waiting_in fates)
   pub told : length s.line ≡ still_waiting h
   pub few : length s.line ≤ 16
   -- so in all

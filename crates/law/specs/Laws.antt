@@ -1,6 +1,6 @@
 -- The law of whole runs. Assumes nothing.
 use Rattle.std.specs.Prelude.{◌≡◌, ℕ, ◌+◌, ◌-◌, ◌%◌, ◌<◌, ◌≤◌, Bool, true, false, cond, ◌&&◌, ◌||◌, ◌⊎◌, List, [], ◌∷◌, ◌++◌, map, length, Some, None, ◌==◌}
-use Rattle.std.specs.List.{AllByRecursion as All}
+use Rattle.std.specs.List.{AllByRecursion}
 use Rattle.link.specs.Addresses.{link_address}
 use Rattle.rules.specs.Known.{address_of, among, find}
 use Rattle.rules.specs.Packets.{hops_of, number_of, source_of, target_of}
@@ -136,7 +136,7 @@ pub record EightOthers (n : ℕ) (between : List Heard) : Type 0 where
   pub eight : length others ≡ 8
   pub different : Different others
   pub not_it : among n others ≡ false
-  pub heard_all : All (λ m. among m (numbers between) ≡ true) others
+  pub heard_all : AllByRecursion (λ m. among m (numbers between) ≡ true) others
 
 -- two newly accepted packets, one next after the other, more than 20,000 ms apart
 pub record Silence (xs : List Heard) : Type 0 where
@@ -189,7 +189,7 @@ pub record Lawful (w : Start) (h : History) (s : State) : Type 0 where
   pub lower : EachCall (OneLower w) h
   pub nearer : EachCall (NearerIf w) h
   pub fates : Fates w h s
-  pub origins : All (Origin w h) (takings w h)
+  pub origins : AllByRecursion (Origin w h) (takings w h)
   pub fresh : EachCall Fresh h
   pub delivering : EachCall OnlyReceivesDeliver h
   pub deliveries : Deliveries h

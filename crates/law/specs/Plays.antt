@@ -1,6 +1,6 @@
 -- Runs as they are played: a list of calls, the oldest first, each answered by the rules on the link that the one before left. Assumes nothing.
 use Rattle.std.specs.Prelude.{ℕ, List, [], ◌∷◌, ◌++◌, map, Some, None, Option}
-use Rattle.std.specs.List.{AllByRecursion as All}
+use Rattle.std.specs.List.{AllByRecursion}
 use Rattle.rules.specs.Rules.{on_air, step}
 use Rattle.rules.specs.Verdicts.{number}
 use Rattle.law.specs.Runs.{Ran}
@@ -44,7 +44,7 @@ opened_with w = record { history = []; state = on_air w; link = [] }
 
 -- whatever is asked, what is played is a run
 abbrev pub EveryPlayIsARun : Type 0
-EveryPlayIsARun = (w : Start) (calls : List Asked) → All (λ a. Meant a.around) calls → Ran w (played (opened_with w) calls).history (played (opened_with w) calls).state
+EveryPlayIsARun = (w : Start) (calls : List Asked) → AllByRecursion (λ a. Meant a.around) calls → Ran w (played (opened_with w) calls).history (played (opened_with w) calls).state
 
 -- what a call told: verdict, place and length of a delivery, stations and packets let go, and how many wait; or its refusal
 pub record Telling : Type 0 where

@@ -5,7 +5,7 @@ use Rattle.std.proofs.lemmas.List.{at_drop_more, get_or_at}
 use Rattle.std.proofs.lemmas.Bool.{cond_both, cond-true, cond-false, ltb-true, ltb-false, lt-ltb, le-ltb}
 use Rattle.policy.specs.declared.choice.Choice.{Choice}
 use Rattle.policy.specs.declared.choice.Choice.TheVariants.{Neighbour, Wait, NoProgress, Nobody}
-use Rattle.policy.specs.Choices.{Sound, Smallest, best-from, greedy}
+use Rattle.policy.specs.Choices.{Sound, Smallest, best_from, greedy}
 
 -- what holds of the best of the first i
 abbrev SoFar : ℕ → List ℕ → ℕ → ℕ → Choice → Type 0
@@ -37,17 +37,17 @@ ends ours near i best (Wait w) e h = absurd h
 ends ours near i best NoProgress e h = absurd h
 ends ours near i best Nobody e h = λ k b. omega (arith, h.0, h.1 k (omega arith))
 
-goes : (ours : ℕ) (front rest : List ℕ) (i best : ℕ) (c : Choice) → length front ≡ i → SoFar ours (front ++ rest) i best c → Smallest ours (front ++ rest) (best-from i best c rest)
+goes : (ours : ℕ) (front rest : List ℕ) (i best : ℕ) (c : Choice) → length front ≡ i → SoFar ours (front ++ rest) i best c → Smallest ours (front ++ rest) (best_from i best c rest)
 goes ours front [] i best c e h = ends ours (front ++ []) i best c (ap length (append-nil front) ∙ e) h
 goes ours front (x ∷ rest) i best c e h =
     let at = get_or_at front x rest 0 i e in
     let moved : (front ++ (x ∷ [])) ++ rest ≡ front ++ (x ∷ rest) = append_assoc front (x ∷ []) rest in
     let long : length (front ++ (x ∷ [])) ≡ i + 1 = length-append front (x ∷ []) ∙ ap (λ (n : ℕ). n + 1) e in
     cond_both (nat_lt x best) _ _ (Smallest ours (front ++ (x ∷ rest)))
-    (λ t. subst (λ (l : List ℕ). Smallest ours l (best-from (i + 1) x (Neighbour i) rest)) moved
+    (λ t. subst (λ (l : List ℕ). Smallest ours l (best_from (i + 1) x (Neighbour i) rest)) moved
     (goes ours (front ++ (x ∷ [])) rest (i + 1) x (Neighbour i) long
     (subst (λ (l : List ℕ). SoFar ours l (i + 1) x (Neighbour i)) (sym moved) (takes ours _ i best x c h at (ltb-true _ _ t)))))
-    (λ f. subst (λ (l : List ℕ). Smallest ours l (best-from (i + 1) best c rest)) moved
+    (λ f. subst (λ (l : List ℕ). Smallest ours l (best_from (i + 1) best c rest)) moved
     (goes ours (front ++ (x ∷ [])) rest (i + 1) best c long
     (subst (λ (l : List ℕ). SoFar ours l (i + 1) best c) (sym moved) (keeps ours _ i best x c h at (ltb-false _ _ f)))))
 
@@ -65,8 +65,8 @@ greedy_sound ours sender near = sound_from ours sender near (greedy ours near) (
 
 -- one distance more
 module _ (i best : ℕ) (c : Choice) (xs : List ℕ) (within : i < length xs) where
-  pub best_takes : slice_index_or xs i 0 < best → best-from i best c (drop i xs) ≡ best-from (i + 1) (slice_index xs i) (Neighbour i) (drop (i + 1) xs)
-  best_takes h = at_drop_more (best-from i best c) xs i 0 within ∙ cond-true _ _ _ (lt-ltb _ _ h)
+  pub best_takes : slice_index_or xs i 0 < best → best_from i best c (drop i xs) ≡ best_from (i + 1) (slice_index xs i) (Neighbour i) (drop (i + 1) xs)
+  best_takes h = at_drop_more (best_from i best c) xs i 0 within ∙ cond-true _ _ _ (lt-ltb _ _ h)
 
-  pub best_keeps : best ≤ slice_index xs i → best-from i best c (drop i xs) ≡ best-from (i + 1) best c (drop (i + 1) xs)
-  best_keeps h = at_drop_more (best-from i best c) xs i 0 within ∙ cond-false _ _ _ (le-ltb _ _ h)
+  pub best_keeps : best ≤ slice_index xs i → best_from i best c (drop i xs) ≡ best_from (i + 1) best c (drop (i + 1) xs)
+  best_keeps h = at_drop_more (best_from i best c) xs i 0 within ∙ cond-false _ _ _ (le-ltb _ _ h)

@@ -1,6 +1,6 @@
 // Contention-based forwarding: the more progress over the sender, the shorter the wait.
 ghost use Rattle.std.specs.Prelude.{◌≡◌, ◌≤◌};
-ghost use Rattle.policy.specs.Choices.{contention, waitFor};
+ghost use Rattle.policy.specs.Choices.{contention, wait_for};
 ghost use Rattle.std.proofs.Common.{rules};
 
 use crate::Policy;
@@ -14,7 +14,7 @@ pub const FULL_PROGRESS: u32 = 10_000;
 
 // How long to wait, in ms, at so many decimetres of progress.
 pub fn waiting_time(progress: u32) -> u8
-    ensures { result ≡ waitFor progress }
+    ensures { result ≡ wait_for progress }
 {
     if progress > FULL_PROGRESS {
         return 1;

@@ -5,8 +5,8 @@ ghost use Rattle.radio_queue.specs.Heads.{total, largest};
 
 use crate::frame::Head;
 
-pub mod link;
 pub mod methods;
+pub mod sending;
 
 // How many frames can wait.
 pub const FRAMES: usize = 8;

@@ -1,7 +1,7 @@
 // Packets taken apart, as lines of text.
 #![tactic(auto)]
 
-pub mod fields;
+pub mod packet_lines;
 pub mod report;
 pub mod run;
 pub mod units;

@@ -1,5 +1,5 @@
 // The answers to the lines.
-use crate::fields::{KindName, PacketLines};
+use crate::packet_lines::{KindName, PacketLines};
 use outcomes::outcome::Outcome;
 use outcomes::refusal::Refusal;
 use std::fmt;

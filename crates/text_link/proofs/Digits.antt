@@ -1,16 +1,16 @@
 -- Digits written, and read back. Assumes nothing.
 use Rattle.std.proofs.Common.{◌≡◌, ℕ, ◌+◌, ◌*◌, ◌/◌, ◌%◌, ◌<◌, ◌≤◌, false, eqb, List, [], ◌∷◌, ◌++◌, length, get_or, drop, sym, refl, ap, ◌∙◌, append_assoc, append-nil, arith}
-use Rattle.std.specs.List.{AllByRecursion as All}
+use Rattle.std.specs.List.{AllByRecursion}
 use Rattle.std.proofs.lemmas.List.{at_drop_more, at_drop_all}
 use Rattle.std.proofs.lemmas.Bool.Decides.{nat_tests}
 use Rattle.text_link.specs.Texts.{digit, digits, digit_value, octets_in}
 
 abbrev pub Octets : List ℕ → Type 0
-Octets xs = All (λ x. x < 256) xs
+Octets xs = AllByRecursion (λ x. x < 256) xs
 
 -- no line feed among them
 abbrev pub Clean : List ℕ → Type 0
-Clean xs = All (λ x. eqb x 10 ≡ false) xs
+Clean xs = AllByRecursion (λ x. eqb x 10 ≡ false) xs
 
 pub length_digits : (xs : List ℕ) → length (digits xs) ≡ 2 * length xs
 length_digits [] = refl

@@ -2,8 +2,8 @@
 ghost use Rattle.std.specs.Prelude.{◌≡◌, ◌≤◌, vec_len, vec_capacity};
 ghost use Rattle.text_link.specs.Texts.{lines, decoded};
 
-pub mod link;
 pub mod methods;
+pub mod sending;
 
 #[derive(Drop)]
 pub struct TextLink {

@@ -1,7 +1,7 @@
 use Rattle.std.proofs.Common.{◌≡◌, sym, ◌∙◌, subst}
 use Rattle.std.proofs.lemmas.List.{at_drop_all}
 use Rattle.policy.specs.declared.choice.Choice.{Choice}
-use Rattle.policy.specs.Choices.{best-from, greedy, Smallest}
+use Rattle.policy.specs.Choices.{best_from, greedy, Smallest}
 use Rattle.policy.specs.Smallests.{smallest, best_takes, best_keeps}
 use Rattle.policy.proofs.greedy.GreedyPolicy.choose.Goals as goal
 use Rattle.policy.proofs.greedy.GreedyPolicy.choose.Goals.{then-distance-best, else-distance-best}
@@ -15,5 +15,5 @@ loop-index-preserved c =
 
 pub returns : goal.returns
 returns c =
-    let e : c.loop-index.choice ≡ greedy c.args.ours c.args.neighbours.now = sym (at_drop_all (best-from c.loop-index.index c.loop-index.best c.loop-index.choice) c.args.neighbours.now c.loop-index.index c.loop-index-test.false) ∙ c.loop-index.invariant in
+    let e : c.loop-index.choice ≡ greedy c.args.ours c.args.neighbours.now = sym (at_drop_all (best_from c.loop-index.index c.loop-index.best c.loop-index.choice) c.args.neighbours.now c.loop-index.index c.loop-index-test.false) ∙ c.loop-index.invariant in
     record { value = e; smallest = subst (λ (r : Choice). Smallest c.args.ours c.args.neighbours.now r) (sym e) (smallest c.args.ours c.args.neighbours.now) }

@@ -8,7 +8,7 @@
 #
 # N is the number of lines for each program, 20000 if it is left out; a SEED
 # that is left out is a random one, and it is printed. The programs are those
-# that `rt check` has put into target/bin/; GN_SHOW, GN_MAKE and GN_FORWARD name
+# that `rt run` has put into crates/NAME/out/; GN_SHOW, GN_MAKE and GN_FORWARD name
 # others.
 set -euo pipefail
 
@@ -16,13 +16,13 @@ here=$(cd "$(dirname "${BASH_SOURCE[0]}")" && pwd)
 root=$(cd "$here/.." && pwd)
 count=${1:-20000}
 seed=${2:-$((RANDOM * 32768 + RANDOM))}
-gn_show=${GN_SHOW:-$root/target/bin/gn_show}
-gn_make=${GN_MAKE:-$root/target/bin/gn_make}
-gn_forward=${GN_FORWARD:-$root/target/bin/gn_forward}
+gn_show=${GN_SHOW:-$root/crates/gn_show/out/gn_show}
+gn_make=${GN_MAKE:-$root/crates/gn_make/out/gn_make}
+gn_forward=${GN_FORWARD:-$root/crates/gn_forward/out/gn_forward}
 reference=$here/target/gn_reference
 
 need_program() {
-    [[ -x $1 ]] || { echo "no program $1: run 'rt check' first" >&2; exit 2; }
+    [[ -x $1 ]] || { echo "no program $1: run 'rt run' in its crate first" >&2; exit 2; }
 }
 
 # The number of the first line in which two files differ.

@@ -5,7 +5,7 @@
 #   reference/tshark.sh
 #
 # It is run by hand and needs Debian's package tshark. The program is the one
-# that `rt check` has put into target/bin/gn_make; GN_MAKE names another, with
+# that `rt run` has put into crates/gn_make/out/gn_make; GN_MAKE names another, with
 # its arguments (as GN_MAKE="reference/target/gn_reference make").
 #
 # tshark shows numbers as they stand in the packet, but the kind and the
@@ -19,14 +19,14 @@ set -euo pipefail
 here=$(cd "$(dirname "${BASH_SOURCE[0]}")" && pwd)
 root=$(cd "$here/.." && pwd)
 reference=$here/target/gn_reference
-read -ra gn_make <<< "${GN_MAKE:-$root/target/bin/gn_make}"
+read -ra gn_make <<< "${GN_MAKE:-$root/crates/gn_make/out/gn_make}"
 
 command -v tshark > /dev/null || {
     echo "there is no tshark here: apt-get install -y tshark" >&2
     exit 2
 }
 command -v "${gn_make[0]}" > /dev/null || {
-    echo "no program ${gn_make[0]}: run 'rt check' first" >&2
+    echo "no program ${gn_make[0]}: run 'rt run' in crates/gn_make first" >&2
     exit 2
 }
 

@@ -18,7 +18,7 @@ Every-run-is-lawful=EveryRunIsLawful First-cancelled=FirstCancelled First-fittin
 Met-by=MetBy Motion-read=MotionRead Motion-written=MotionWritten Nearer-if=NearerIf Old-fate=OldFate One-lower=OneLower One-lower-by=OneLowerBy
 One-octet=OneOctet Only-receives-deliver=OnlyReceivesDeliver Only-receives-deliver-by=OnlyReceivesDeliverBy Opening-bears-the-law=OpeningBearsTheLaw
 Pretenders-are-caught=PretendersAreCaught Read-written=ReadWritten Rules-agree=RulesAgree Stays-lawful=StaysLawful The-example=TheExample
-Nearest-ourselves=NearestOurselves best-from=best_from waitFor=wait_for
+Goes_on=GoesOn Nearest-ourselves=NearestOurselves best-from=best_from waitFor=wait_for
 Upper-read=UpperRead Upper-written=UpperWritten Written-read=WrittenRead accurateIn=accurate_in address-of=address_of again-too-soon=again_too_soon
 aged-cancelled=aged_cancelled aged-fate=aged_fate aged-left=aged_left aged-let-go=aged_let_go aged-moved=aged_moved aged-old=aged_old
 aged-one=aged_one aged-pair=aged_pair aged-serials=aged_serials aged-taking=aged_taking aged-waiting=aged_waiting all-at=all_at all-below=all_below

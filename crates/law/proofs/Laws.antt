@@ -16,7 +16,7 @@ use Rattle.law.proofs.Origins.{origins}
 use Rattle.rules.specs.declared.verdict.Verdict.TheVariants as verdict
 use Rattle.law.specs.Fates.{Fates}
 use Rattle.law.specs.Laws.{OnlyReceivesDeliver, Basics, EachCall, Fresh, Judged, Lawful, OneLower, Table}
-use Rattle.law.specs.Theorems.{Goes_on, StaysLawful, Whole, Linked, CallsBearTheLaw, OpeningBearsTheLaw, asked}
+use Rattle.law.specs.Theorems.{GoesOn, StaysLawful, Whole, Linked, CallsBearTheLaw, OpeningBearsTheLaw, asked}
 use Rattle.law.specs.Runs.{Obeys, Ran, call, opened, ruled}
 use Rattle.law.specs.Words.{clock, heard, live_by, newly, newly_by, repeats}
 use Rattle.law.specs.World.{Meant, Answer, Around, Call, Event, Fault, Frame, History, LinkAddress, Outcome, Start, State, Station, accepted, for-ms, for-neighbour, is_some, place, receive, refused, send, serve}
@@ -235,7 +235,7 @@ lawful {w} opened = lawful_start w
 lawful {w} (call {h = h} {s = s} {e = e} {t = t} r o) = lawful_more w h s e t (lawful r) o
 
 -- for the contracts of the public calls
-pub goes_on : {w : Start} {s : State} {e : Event} {t : State} → Obeys s e t → Goes_on w s e t
+pub goes_on : {w : Start} {s : State} {e : Event} {t : State} → Obeys s e t → GoesOn w s e t
 goes_on o = λ h r. record { answered = call r o; lawful = lawful (call r o) }
 
 pub stays_lawful : {w : Start} {s : State} {e : Event} {t : State} → Obeys s e t → StaysLawful w s e t

@@ -15,8 +15,8 @@ abbrev pub EveryRunIsLawful : Type 0
 EveryRunIsLawful = (w : Start) (h : History) (s : State) → Ran w h s → Law w h s
 
 -- what each public call can say of runs: whatever calls led here, with this one it is again a run, and lawful
-abbrev pub Goes_on : Start → State → Event → State → Type 0
-Goes_on w s e t = (h : History) → Ran w h s → Law w (e ∷ h) t
+abbrev pub GoesOn : Start → State → Event → State → Type 0
+GoesOn w s e t = (h : History) → Ran w h s → Law w (e ∷ h) t
 
 -- and without naming runs
 abbrev pub StaysLawful : Start → State → Event → State → Type 0
@@ -39,7 +39,7 @@ pub record Whole (w : Start) (first : List Frame) (calls : List (ℕ × Call)) (
 
 -- the form in which the calls of a router bear the law: one that obeys the rules goes on with every run, and keeps the law
 abbrev pub CallsBearTheLaw : Type 0
-CallsBearTheLaw = (w : Start) (s : State) (e : Event) (t : State) → Obeys s e t → Goes_on w s e t × StaysLawful w s e t
+CallsBearTheLaw = (w : Start) (s : State) (e : Event) (t : State) → Obeys s e t → GoesOn w s e t × StaysLawful w s e t
 
 -- a router that was just opened and placed has run, and is lawful
 abbrev pub OpeningBearsTheLaw : Type 0

@@ -1,5 +1,7 @@
 -- The table of kinds. Assumes nothing.
-use Rattle.std.specs.Prelude.{ℕ, Bool, true, false, cond, Some, None, Option, ◌==◌}
+use Rattle.std.specs.Prelude.{ℕ, Bool, true, false, cond, Some, None, Option, Result, ◌==◌}
+use Rattle.std.specs.Option.{ok_or}
+use Rattle.packets.specs.declared.kind.UnknownKind.{UnknownKind}
 use Rattle.packets.specs.declared.kind.Kind.{Kind}
 use Rattle.packets.specs.declared.kind.Kind.TheVariants.{Beacon, Unicast, Anycast, Broadcast, SingleHop, MultiHop}
 
@@ -17,6 +19,10 @@ abbrev pub kind_of : ℕ → Option Kind
 kind_of b =
     cond (b == 16) (Some Beacon) (cond (b == 32) (Some Unicast) (cond (b == 48) (Some Anycast) (cond (b == 64) (Some Broadcast)
     (cond (b == 80) (Some SingleHop) (cond (b == 81) (Some MultiHop) None)))))
+
+-- the same, with the octet where there is none
+abbrev pub kind_from : ℕ → Result Kind UnknownKind
+kind_from b = ok_or (kind_of b) (record { octet = b })
 
 -- the octets before the payload
 abbrev pub headers_of : Kind → ℕ

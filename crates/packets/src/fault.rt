@@ -1,8 +1,9 @@
 // Why octets are not a packet, and why a packet is not written.
 ghost use Rattle.std.specs.Prelude.{◌≡◌};
 ghost use Rattle.packets.specs.Faults.{header_number, header_place, write_number, write_place};
-ghost use Rattle.packets.specs.declared.fault.HeaderFault.TheVariants.{Octets};
+ghost use Rattle.packets.specs.declared.fault.HeaderFault.TheVariants.{Octets, UnknownKind};
 
+use crate::kind::UnknownKind;
 use octets::fault::OctetFault;
 
 #[derive(Clone, Copy, Debug, PartialEq, Eq)]
@@ -46,6 +47,14 @@ impl HeaderFault {
             HeaderFault::HopLimit => 3,
             HeaderFault::Lifetime => 2,
         }
+    }
+}
+
+impl From<UnknownKind> for HeaderFault {
+    ghost from_gives = { λ _ fault. fault ≡ UnknownKind };
+
+    fn from(_kind: UnknownKind) -> Self {
+        Self::UnknownKind
     }
 }
 

@@ -3,7 +3,7 @@ ghost use Rattle.std.specs.Prelude.{◌≡◌, ◌≤◌, length, OnOk};
 ghost use Rattle.packets.specs.Kinds.{headers_of};
 ghost use Rattle.packets.specs.Reading.{framing, lengths, limits};
 
-use octets::read::{check_room, u16_at};
+use octets::read::{FromOctets, check_room};
 use packets::common::CommonHeader;
 use packets::fault::HeaderFault;
 use packets::kind::Kind;
@@ -26,10 +26,7 @@ pub(crate) fn check_framing(octets: &[u8]) -> Result<Kind, HeaderFault>
     if octets[0] % 16 != 1 {
         return Err(HeaderFault::NextHeader);
     }
-    match Kind::from_octet(octets[5]) {
-        Some(kind) => Ok(kind),
-        None => Err(HeaderFault::UnknownKind),
-    }
+    Ok(Kind::try_from(octets[5])?)
 }
 
 // Refusal 6: the octets are headers and payload, and there is not too much payload.
@@ -38,7 +35,7 @@ pub(crate) fn check_lengths(kind: Kind, octets: &[u8]) -> Result<(), HeaderFault
     ensures value { result ≡ lengths kind octets.now }
     ensures bound { OnOk result (headers_of kind ≤ length octets.now) }
 {
-    let payload = usize::from(u16_at(octets, 8)?);
+    let payload = usize::from(u16::read(octets, 8)?);
     if octets.len() != kind.header_count() + payload || payload > kind.payload_limit() {
         return Err(HeaderFault::PayloadLength);
     }

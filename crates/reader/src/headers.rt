@@ -7,7 +7,7 @@ use fields::sequence_number::SequenceNumber;
 use fields::traffic_class::TrafficClass;
 use fields::upper_protocol::UpperProtocol;
 use octets::fault::OctetFault;
-use octets::read::{u16_at, u32_at};
+use octets::read::FromOctets;
 use packets::common::CommonHeader;
 use packets::headers::{AreaHeader, BeaconHeader, MultiHopHeader, SingleHopHeader, UnicastHeader};
 use times::lifetime::Lifetime;
@@ -40,7 +40,7 @@ pub(crate) fn read_beacon(common: CommonHeader, octets: &[u8]) -> Result<BeaconH
 pub(crate) fn read_unicast(common: CommonHeader, octets: &[u8]) -> Result<UnicastHeader, OctetFault>
     ensures { result ≡ unicast_at common octets.now }
 {
-    let number = u16_at(octets, 12)?;
+    let number = u16::read(octets, 12)?;
     let source = LongPositionVector::read(octets, 16)?;
     let destination = ShortPositionVector::read(octets, 40)?;
     Ok(UnicastHeader {
@@ -57,7 +57,7 @@ pub(crate) fn read_area_header(
 ) -> Result<AreaHeader, OctetFault>
     ensures { result ≡ area_header_at common octets.now }
 {
-    let number = u16_at(octets, 12)?;
+    let number = u16::read(octets, 12)?;
     let source = LongPositionVector::read(octets, 16)?;
     let area = Area::read(octets, 40)?;
     Ok(AreaHeader {
@@ -75,7 +75,7 @@ pub(crate) fn read_single_hop(
     ensures { result ≡ single_hop_at common octets.now }
 {
     let source = LongPositionVector::read(octets, 12)?;
-    let media = u32_at(octets, 36)?;
+    let media = u32::read(octets, 36)?;
     Ok(SingleHopHeader {
         common,
         source,
@@ -89,7 +89,7 @@ pub(crate) fn read_multi_hop(
 ) -> Result<MultiHopHeader, OctetFault>
     ensures { result ≡ multi_hop_at common octets.now }
 {
-    let number = u16_at(octets, 12)?;
+    let number = u16::read(octets, 12)?;
     let source = LongPositionVector::read(octets, 16)?;
     Ok(MultiHopHeader {
         common,

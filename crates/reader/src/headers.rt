@@ -15,21 +15,6 @@ use vectors::area::Area;
 use vectors::long::LongPositionVector;
 use vectors::short::ShortPositionVector;
 
-// The first twelve octets.
-pub(crate) fn read_common(octets: &[u8]) -> CommonHeader
-    requires { 12 ≤ length octets.now }
-    ensures { result ≡ common_of octets.now }
-{
-    CommonHeader {
-        lifetime: Lifetime { octet: octets[2] },
-        remaining_hop_limit: octets[3],
-        maximum_hop_limit: octets[10],
-        upper_protocol: UpperProtocol::from_octet(octets[4]),
-        traffic_class: TrafficClass { octet: octets[6] },
-        mobile: octets[7] >= 128,
-    }
-}
-
 pub(crate) fn read_beacon(common: CommonHeader, octets: &[u8]) -> Result<BeaconHeader, OctetFault>
     ensures { result ≡ beacon_at common octets.now }
 {

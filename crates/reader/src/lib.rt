@@ -2,5 +2,6 @@
 #![tactic(auto)]
 
 pub mod checks;
+mod framed;
 pub mod headers;
 pub mod read;

@@ -3,9 +3,10 @@ ghost use Rattle.std.specs.Prelude.{◌≡◌, ◌≤◌, length, drop};
 ghost use Rattle.packets.specs.Contents.{content_in};
 ghost use Rattle.packets.specs.Reading.{reading};
 
-use crate::checks::{check_framing, check_lengths, check_limits};
+use crate::checks::check_limits;
+use crate::framed::Framed;
 use crate::headers::{
-    read_area_header, read_beacon, read_common, read_multi_hop, read_single_hop, read_unicast,
+    read_area_header, read_beacon, read_multi_hop, read_single_hop, read_unicast,
 };
 use packets::fault::HeaderFault;
 use packets::kind::Kind;
@@ -15,12 +16,12 @@ use packets::packet::Packet;
 pub fn read<'a>(octets: &'a [u8]) -> Result<Packet<'a>, HeaderFault>
     ensures { content_in result ≡ reading octets.now }
 {
-    let kind = check_framing(octets)?;
-    check_lengths(kind, octets)?;
-    let common = read_common(octets);
-    check_limits(kind, &common)?;
-    let payload = payload_part(octets, kind.header_count());
-    match kind {
+    let framed = Framed::new(octets)?;
+    framed.check_lengths()?;
+    let common = framed.common();
+    check_limits(framed.kind, &common)?;
+    let payload = payload_part(octets, framed.kind.header_count());
+    match framed.kind {
         Kind::Beacon => Ok(Packet::Beacon(read_beacon(common, octets)?, payload)),
         Kind::Unicast => Ok(Packet::Unicast(read_unicast(common, octets)?, payload)),
         Kind::Anycast => Ok(Packet::Anycast(read_area_header(common, octets)?, payload)),

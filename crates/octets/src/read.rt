@@ -33,6 +33,7 @@ fn part_at<const WIDTH: usize>(octets: &[u8], at: usize) -> Result<[u8; WIDTH], 
     rest.first_chunk().copied().ok_or(missing)
 }
 
+// Each unsigned number has an impl of its own, since each takes an array of another length.
 impl FromOctets for u8 {
     ghost reading = { read_at 1 };
 

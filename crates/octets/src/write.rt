@@ -40,6 +40,7 @@ pub fn put_part(octets: &mut [u8], at: usize, part: &[u8]) -> Result<(), OctetFa
     Ok(())
 }
 
+// Each unsigned number has an impl of its own, since each makes an array of another length.
 impl ToOctets for u8 {
     ghost WIDTH = { 1 };
 

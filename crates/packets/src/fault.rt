@@ -4,7 +4,7 @@ ghost use Rattle.packets.specs.Faults.{header_number, header_place, write_number
 ghost use Rattle.packets.specs.declared.fault.HeaderFault.TheVariants.{Octets, UnknownKind};
 
 use crate::kind::UnknownKind;
-use octets::fault::OctetFault;
+use octets::fault::{Fault, OctetFault};
 
 #[derive(Clone, Copy, Debug, PartialEq, Eq)]
 pub enum HeaderFault {
@@ -18,11 +18,12 @@ pub enum HeaderFault {
     Lifetime,
 }
 
-impl HeaderFault {
-    // The number of the refusal.
-    pub fn number(&self) -> u8
-        ensures { result ≡ header_number self.now }
-    {
+impl Fault for HeaderFault {
+    ghost number = { header_number };
+
+    ghost place = { header_place };
+
+    fn number(&self) -> u8 {
         match self {
             HeaderFault::Octets(f) => f.number(),
             HeaderFault::TooLong => 2,
@@ -35,10 +36,7 @@ impl HeaderFault {
         }
     }
 
-    // The place of the octet at fault.
-    pub fn place(&self) -> usize
-        ensures { result ≡ header_place self.now }
-    {
+    fn place(&self) -> usize {
         match self {
             HeaderFault::Octets(f) => f.place(),
             HeaderFault::TooLong | HeaderFault::Version | HeaderFault::NextHeader => 0,
@@ -74,11 +72,12 @@ pub enum WriteFault {
     Payload,
 }
 
-impl WriteFault {
-    // The number of the refusal.
-    pub fn number(&self) -> u8
-        ensures { result ≡ write_number self.now }
-    {
+impl Fault for WriteFault {
+    ghost number = { write_number };
+
+    ghost place = { write_place };
+
+    fn number(&self) -> u8 {
         match self {
             WriteFault::HopLimit => 7,
             WriteFault::Lifetime => 8,
@@ -88,9 +87,7 @@ impl WriteFault {
     }
 
     // There is no octet at fault yet.
-    pub fn place(&self) -> usize
-        ensures { result ≡ write_place self.now }
-    {
+    fn place(&self) -> usize {
         0
     }
 }

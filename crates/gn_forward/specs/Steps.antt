@@ -20,11 +20,11 @@ use Rattle.gn_forward.specs.declared.verdicts.RoundVerdicts.{RoundVerdicts}
 
 -- what a policy says in a situation, by the distances of a ground
 abbrev pub advised : (ℕ → Option ℕ → List ℕ → Choice) → (Position → Position → ℕ) → Situation → Choice
-advised choice span s = advice choice span s.fields.course (stations_in (vec_items s.table.entries))
+advised choice span s = advice choice span s.fields.course (stations_in s.table)
 
 -- a step on a link that has space or has none: the verdict on what the policy says, and the frames that it names put last
 pub record Stepped (said : Choice) (s : Situation) (space : Bool) (before after : List Frame) (v : Verdict) : Type 0 where
-  pub verdict : v ≡ judged said s.fields.held (link_addresses (stations_in (vec_items s.table.entries))) space
+  pub verdict : v ≡ judged said s.fields.held (link_addresses (stations_in s.table)) space
   pub frames : after ≡ before ++ frames_of v (vec_items s.packet)
 
 -- a step on each link

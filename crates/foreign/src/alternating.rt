@@ -29,7 +29,7 @@ impl<L: Link> Link for Alternating<L> {
     {
         self.open = !self.open;
         if self.open {
-            return Err(NoSpace {});
+            return Err(NoSpace);
         }
         self.below.send(to, packet)
     }

@@ -4,7 +4,7 @@ ghost use Rattle.forwarding.specs.Verdicts.{number};
 
 use link::address::LinkAddress;
 
-#[derive(Clone, Copy)]
+#[derive(Clone, Copy, Debug, PartialEq, Eq)]
 pub enum Verdict {
     // It went to everybody.
     Broadcast,

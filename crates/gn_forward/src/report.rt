@@ -1,7 +1,7 @@
 // The answer to a situation.
 use crate::distances::Distances;
 use crate::links::Links;
-use crate::shown::{GroundRefusal, LastVerdicts, Neighbours, Sender, Side, TextLines};
+use crate::shown::{LastVerdicts, Neighbours, Sender, Side, TextLines};
 use crate::steps::rounds;
 use crate::verdicts::{GroundVerdicts, RoundVerdicts};
 use ground::flat::Flat;
@@ -14,11 +14,11 @@ use std::io;
 
 // Does the steps of a situation and writes what came of them, or why there is no ground for them.
 pub fn print_situation(rt: &HostRuntime, number: u64, situation: &Situation) -> io::Result<()> {
-    match EastScale::new(situation.fields.scale) {
+    match EastScale::try_from(situation.fields.scale) {
         Ok(scale) => print_steps(rt, number, situation, scale),
         Err(fault) => {
-            let refusal = GroundRefusal(fault);
-            println!(rt; "line {number}: {refusal}")
+            let refusal = fault.number();
+            println!(rt; "line {number}: refused, number {refusal} at place 0: {fault}")
         }
     }
 }
@@ -50,7 +50,7 @@ fn print_grounds(
         Some(round) => (Some(round.flat), Some(round.street)),
         None => (None, None),
     };
-    let neighbours = flat.count;
+    let neighbours = flat.near.len();
     let stations = situation.table.entries().len();
     println!(rt; "line {number}: {neighbours} of {stations} stations are neighbours")?;
     print_ground(rt, "flat", &flat, over_flat)?;
@@ -65,7 +65,7 @@ fn print_ground(
 ) -> io::Result<()> {
     let ours = distances.ours;
     let sender = Sender(distances.sender);
-    let neighbours = Neighbours(distances.near());
+    let neighbours = Neighbours(distances.near.as_slice());
     let side = Side(distances.inside);
     println!(rt; "  {name}: ours {ours} dm, {sender}, {neighbours}, {side}")?;
     let (greedy, contention) = match last {

@@ -1,7 +1,6 @@
 // Distances, verdicts and frames, in words.
 use crate::verdicts::LinkVerdicts;
 use forwarding::verdict::Verdict;
-use ground::fault::GroundFault;
 use hex_digits::encode::Hex;
 use std::fmt;
 
@@ -76,20 +75,6 @@ impl fmt::Display for LastVerdicts {
             }
             None => f.write_str("nothing on the radio queue, nothing on the text link"),
         }
-    }
-}
-
-// Why no ground is made.
-#[derive(Clone, Copy)]
-pub struct GroundRefusal(pub GroundFault);
-
-impl fmt::Display for GroundRefusal {
-    fn fmt<W: fmt::Write>(&self, f: &mut fmt::Formatter<W>) -> fmt::Result {
-        let number = self.0.number();
-        let reason = match self.0 {
-            GroundFault::ScaleTooLarge => "the east scale is above 1113",
-        };
-        write!(f, "refused, number {number} at place 0: {reason}")
     }
 }
 

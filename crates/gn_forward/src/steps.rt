@@ -4,7 +4,8 @@ ghost use Rattle.gn_forward.specs.Steps.{Stepped, SteppedOnBoth, Overall, advise
 
 use crate::links::Links;
 use crate::verdicts::{GroundVerdicts, LinkVerdicts, RoundVerdicts};
-use forwarding::step::forward;
+use forwarding::carried::Carried;
+use forwarding::step::Forwarder;
 use forwarding::verdict::Verdict;
 use ground::Ground;
 use ground::flat::Flat;
@@ -40,8 +41,8 @@ fn round(situation: &Situation, scale: EastScale, links: &mut Links) -> RoundVer
 fn over_ground<G: Ground>(situation: &Situation, ground: &G, links: &mut Links) -> GroundVerdicts
     ensures { Overall (G.span ground.now) situation.now links.old links.new result }
 {
-    let greedy = on_both_links(situation, ground, &Greedy {}, links);
-    let contention = on_both_links(situation, ground, &Contention {}, links);
+    let greedy = on_both_links(situation, ground, &Greedy, links);
+    let contention = on_both_links(situation, ground, &Contention, links);
     GroundVerdicts { greedy, contention }
 }
 
@@ -67,13 +68,15 @@ fn on_link<G: Ground, P: Policy, L: Link>(
 ) -> Verdict
     ensures { Stepped (advised (P.choice policy.now) (G.span ground.now) situation.now) situation.now (L.space link.old (length situation.now.packet.items)) (L.frames link.old) (L.frames link.new) result }
 {
-    forward(
-        &situation.table,
-        situation.fields.course,
-        situation.fields.held,
-        situation.packet.as_slice(),
+    let forwarder = Forwarder {
+        table: &situation.table,
         ground,
         policy,
-        link,
-    )
+    };
+    let carried = Carried {
+        course: situation.fields.course,
+        held: situation.fields.held,
+        packet: situation.packet.as_slice(),
+    };
+    forwarder.forward(&carried, link)
 }

@@ -2,6 +2,9 @@
 ghost use Rattle.std.specs.Prelude.{◌≡◌};
 ghost use Rattle.ground.specs.Faults.{number, place};
 
+use std::error::Error;
+use std::fmt;
+
 #[derive(Clone, Copy, Debug, PartialEq, Eq)]
 pub enum GroundFault {
     // The east scale is above 1,113.
@@ -24,3 +27,13 @@ impl GroundFault {
         }
     }
 }
+
+impl fmt::Display for GroundFault {
+    fn fmt<W: fmt::Write>(&self, f: &mut fmt::Formatter<W>) -> fmt::Result {
+        f.write_str(match self {
+            GroundFault::ScaleTooLarge => "the east scale is above 1113",
+        })
+    }
+}
+
+impl Error for GroundFault {}

@@ -22,7 +22,7 @@ pub record Told : Type 0 where
   pub packet : List ℕ
 
 abbrev pub told_by : Situation → Told
-told_by s = record { fields = s.fields; stations = vec_items s.table.entries; packet = vec_items s.packet }
+told_by s = record { fields = s.fields; stations = s.table; packet = vec_items s.packet }
 
 -- nothing yet
 abbrev pub blank : Told

@@ -7,7 +7,7 @@ use crate::told::Fields;
 use crate::values::position_in;
 use fields::position::Position;
 use forwarding::course::Course;
-use ground::scale::checked::EQUATOR;
+use ground::scale::EQUATOR;
 use request::numbers::{flag_in, u8_in, u16_in};
 
 // The size of the text link's buffer, where none is told.
@@ -22,7 +22,7 @@ pub fn no_fields() -> Fields
         longitude: 0,
     };
     Fields {
-        scale: EQUATOR,
+        scale: EQUATOR.value(),
         course: Course {
             ours: origin,
             sender: None,

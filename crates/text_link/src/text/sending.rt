@@ -28,7 +28,7 @@ impl Link for TextLink {
         ensures same { has_space self.old (length packet.now) ≡ false → self.new ≡ self.old }
     {
         if !self.has_space(packet.len()) {
-            return Err(NoSpace {});
+            return Err(NoSpace);
         }
         self.put_last(to, packet);
         Ok(())

@@ -1,7 +1,7 @@
 // Why a ground is not made.
-ghost use Rattle.std.specs.Prelude.{◌≡◌};
 ghost use Rattle.ground.specs.Faults.{number, place};
 
+use octets::fault::Fault;
 use std::error::Error;
 use std::fmt;
 
@@ -11,20 +11,20 @@ pub enum GroundFault {
     ScaleTooLarge,
 }
 
-impl GroundFault {
-    // There is no octet at fault.
-    pub fn place(self) -> usize
-        ensures { result ≡ place self }
-    {
-        0
-    }
+impl Fault for GroundFault {
+    ghost number = { number };
 
-    pub fn number(self) -> u8
-        ensures { result ≡ number self }
-    {
+    ghost place = { place };
+
+    fn number(&self) -> u8 {
         match self {
             GroundFault::ScaleTooLarge => 14,
         }
+    }
+
+    // There is no octet at fault.
+    fn place(&self) -> usize {
+        0
     }
 }
 

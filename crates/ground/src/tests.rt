@@ -4,6 +4,7 @@ use crate::circle::is_inside;
 use crate::flat::Flat;
 use crate::scale::EastScale;
 use fields::position::Position;
+use octets::fault::Fault;
 use std::test::Fail;
 
 fn at(latitude: i32, longitude: i32) -> Position {

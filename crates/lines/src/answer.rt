@@ -1,11 +1,12 @@
 // A program that answers the lines of standard input, one after another.
-use crate::line::{content, is_passed_over};
+use crate::line::{Line, content, is_passed_over};
 use std::io;
 use std::io::{BufRead, BufReader};
 
+// A trait and no closure: of a closure it would have to be asked that it may be called.
 pub trait Answer {
-    // Writes the answer to one line, given its number from 1 and its text.
-    fn answer(&self, rt: &HostRuntime, number: u64, text: &[u8]) -> io::Result<()>;
+    // Writes the answer to one line.
+    fn answer(&self, rt: &HostRuntime, line: Line) -> io::Result<()>;
 }
 
 // Answers each line that is not passed over, up to the end of standard input.
@@ -19,7 +20,7 @@ pub fn answer_all<A: Answer>(rt: &HostRuntime, program: &A) -> io::Result<()> {
         }
         let text = content(line.as_slice());
         if !is_passed_over(text) {
-            program.answer(rt, number, text)?;
+            program.answer(rt, Line { number, text })?;
         }
     }
     Ok(())

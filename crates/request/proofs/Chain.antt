@@ -2,8 +2,8 @@
 use Rattle.std.proofs.Common.{◌≡◌, ℕ, List, [], ◌∷◌, Ok, Err, refl, inl, inr}
 use Rattle.request.specs.Requests.{Takes, AnswersOctets, Begins, Follows, Stops, Requested}
 use Rattle.request.specs.declared.asked.Request.{Request}
-use Rattle.request.specs.declared.fault.RequestFault.{RequestFault}
-use Rattle.request.specs.declared.fault.RequestFault.TheVariants.{NotUnderstood, NoMemory}
+use Rattle.request.specs.declared.fault.LineFault.{LineFault}
+use Rattle.request.specs.declared.fault.LineFault.TheVariants.{NotUnderstood, NoMemory}
 
 -- a word more
 pub follows_more : (left words : List (List ℕ)) (word : List ℕ) (before middle last : Request) → left ≡ word ∷ words → Takes word before middle → Follows words middle last → Follows left before last
@@ -20,6 +20,6 @@ pub requested : (all words : List (List ℕ)) (word : List ℕ) (start last : Re
 requested all words word start last e b k = rw e (start, b, k)
 
 -- a word that is refused
-pub refused : (all words left behind : List (List ℕ)) (first word : List ℕ) (start before after : Request) (fault : RequestFault) → all ≡ first ∷ words → Begins first start → left ≡ word ∷ behind → AnswersOctets word before after (Err fault) → (Stops left before → Stops words start) → Requested all (Err fault)
+pub refused : (all words left behind : List (List ℕ)) (first word : List ℕ) (start before after : Request) (fault : LineFault) → all ≡ first ∷ words → Begins first start → left ≡ word ∷ behind → AnswersOctets word before after (Err fault) → (Stops left before → Stops words start) → Requested all (Err fault)
 refused all words left behind first word start before after NotUnderstood e b f h k = rw e (inr (start, b, k (rw f (inl h))))
 refused all words left behind first word start before after NoMemory e b f h k = rw e tt

@@ -1,4 +1,3 @@
 pub mod Chain
-pub mod Cutting
-pub mod Parsed
 pub mod Worded
+pub mod Cutting

@@ -1,20 +1,43 @@
-// Why a line is no request.
+// Why the words of a line are not taken.
 ghost use Rattle.std.specs.Prelude.{◌≡◌};
-ghost use Rattle.request.specs.declared.fault.RequestFault.TheVariants.{NoMemory};
+ghost use Rattle.request.specs.Faults.{fault_of};
+ghost use Rattle.request.specs.declared.fault.LineFault.TheVariants.{NotUnderstood, NoMemory};
 
+use hex_digits::fault::HexFault;
 use std::alloc::AllocError;
+use std::str::Utf8Error;
 
 #[derive(Clone, Copy, Debug, PartialEq, Eq)]
-pub enum RequestFault {
+pub enum LineFault {
     // A word has no meaning.
     NotUnderstood,
     NoMemory,
 }
 
-impl From<AllocError> for RequestFault {
+impl From<AllocError> for LineFault {
     ghost from_gives = { λ _ r. r ≡ NoMemory };
 
-    fn from(_e: AllocError) -> RequestFault {
-        RequestFault::NoMemory
+    fn from(_e: AllocError) -> LineFault {
+        LineFault::NoMemory
+    }
+}
+
+impl From<HexFault> for LineFault {
+    ghost from_gives = { λ fault r. r ≡ fault_of fault };
+
+    fn from(fault: HexFault) -> LineFault {
+        match fault {
+            HexFault::NotOctets => LineFault::NotUnderstood,
+            HexFault::NoMemory => LineFault::NoMemory,
+        }
+    }
+}
+
+// Octets that are no text.
+impl From<Utf8Error> for LineFault {
+    ghost from_gives = { λ _ r. r ≡ NotUnderstood };
+
+    fn from(_e: Utf8Error) -> LineFault {
+        LineFault::NotUnderstood
     }
 }

@@ -4,7 +4,7 @@ ghost use Rattle.request.specs.Asked.{common_with, vector_with, motion_with, are
 
 use crate::asked::Fields;
 use crate::names::{AreaField, CommonField, Field, MotionField, VectorField};
-use crate::numbers::{flag_in, i16_in, i32_in, u8_in, u16_in, u32_in};
+use crate::numbers::{flag_in, number_in};
 use fields::address::Address;
 use fields::motion::Motion;
 use fields::position::Position;
@@ -34,7 +34,7 @@ pub(crate) fn fields_with(fields: &Fields, field: Field, value: &str) -> Option<
         )?,
         Field::Area(part) => filled.area = area_with(fields.area, part, value)?,
         Field::Number => filled.number = SequenceNumber {
-            value: u16_in(value)?,
+            value: number_in(value)?,
         },
         Field::Media => filled.media = u32_of(value.as_bytes())?,
     }
@@ -47,14 +47,16 @@ fn common_with(common: CommonHeader, field: CommonField, value: &str) -> Option<
     let mut filled = common;
     match field {
         CommonField::Lifetime => filled.lifetime = Lifetime {
-            octet: u8_in(value)?,
+            octet: number_in(value)?,
         },
-        CommonField::RemainingHopLimit => filled.remaining_hop_limit = u8_in(value)?,
-        CommonField::MaximumHopLimit => filled.maximum_hop_limit = u8_in(value)?,
+        CommonField::RemainingHopLimit => filled.remaining_hop_limit = number_in(value)?,
+        CommonField::MaximumHopLimit => filled.maximum_hop_limit = number_in(value)?,
         CommonField::TrafficClass => filled.traffic_class = TrafficClass {
-            octet: u8_in(value)?,
+            octet: number_in(value)?,
         },
-        CommonField::UpperProtocol => filled.upper_protocol = UpperProtocol::new(u8_in(value)?)?,
+        CommonField::UpperProtocol => filled.upper_protocol = UpperProtocol::new(number_in(
+            value,
+        )?)?,
         CommonField::Mobile => filled.mobile = flag_in(value)?,
     }
     Some(filled)
@@ -73,10 +75,10 @@ fn vector_with(
             value: u64_of(value.as_bytes())?,
         },
         VectorField::Timestamp => filled.timestamp = Timestamp {
-            millis: u32_in(value)?,
+            millis: number_in(value)?,
         },
-        VectorField::Latitude => filled.position.latitude = i32_in(value)?,
-        VectorField::Longitude => filled.position.longitude = i32_in(value)?,
+        VectorField::Latitude => filled.position.latitude = number_in(value)?,
+        VectorField::Longitude => filled.position.longitude = number_in(value)?,
     }
     Some(filled)
 }
@@ -96,9 +98,9 @@ fn motion_with(
         )?,
         MotionField::Speed => filled.motion = Motion::new(
             vector.motion.accurate(),
-            i16_in(value)?,
+            number_in(value)?,
         )?,
-        MotionField::Heading => filled.heading = u16_in(value)?,
+        MotionField::Heading => filled.heading = number_in(value)?,
     }
     Some(filled)
 }
@@ -108,11 +110,11 @@ fn area_with(area: Area, field: AreaField, value: &str) -> Option<Area>
 {
     let mut filled = area;
     match field {
-        AreaField::Latitude => filled.centre.latitude = i32_in(value)?,
-        AreaField::Longitude => filled.centre.longitude = i32_in(value)?,
-        AreaField::Radius => filled.radius = u16_in(value)?,
-        AreaField::DistanceB => filled.distance_b = u16_in(value)?,
-        AreaField::Angle => filled.angle = u16_in(value)?,
+        AreaField::Latitude => filled.centre.latitude = number_in(value)?,
+        AreaField::Longitude => filled.centre.longitude = number_in(value)?,
+        AreaField::Radius => filled.radius = number_in(value)?,
+        AreaField::DistanceB => filled.distance_b = number_in(value)?,
+        AreaField::Angle => filled.angle = number_in(value)?,
     }
     Some(filled)
 }

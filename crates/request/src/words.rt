@@ -5,9 +5,8 @@ ghost use Rattle.request.specs.Words.{AnswersSet, AnswersWord, AnswersPayload, A
 
 use crate::asked::Request;
 use crate::blank::no_fields;
-use crate::fault::RequestFault;
+use crate::fault::LineFault;
 use crate::fill::fields_with;
-use crate::lookup::field_named;
 use crate::names::Field;
 use hex_digits::decode::decode;
 use packets::kind::Kind;
@@ -28,48 +27,34 @@ impl Request {
     }
 
     // Sets what the word `name=value` names. A word that is refused leaves the request as it was.
-    pub(crate) fn take_word(&mut self, heap: Global, word: &str) -> Result<(), RequestFault>
+    pub(crate) fn take_word(&mut self, heap: Global, word: &str) -> Result<(), LineFault>
         ensures { AnswersWord word.now self.old self.new result }
     {
-        match word.split_once('=') {
-            Some((name, value)) => self.set(heap, name, value),
-            None => Err(RequestFault::NotUnderstood),
-        }
+        let (name, value) = word.split_once('=').ok_or(LineFault::NotUnderstood)?;
+        self.set(heap, name, value)
     }
 
-    fn set(&mut self, heap: Global, name: &str, value: &str) -> Result<(), RequestFault>
+    fn set(&mut self, heap: Global, name: &str, value: &str) -> Result<(), LineFault>
         ensures { AnswersSet name.now value.now self.old self.new result }
     {
         if name == "payload" {
-            return self.set_payload(heap, value);
-        }
-        match field_named(name) {
-            Some(field) => self.set_field(field, value),
-            None => Err(RequestFault::NotUnderstood),
+            self.set_payload(heap, value)
+        } else {
+            self.set_field(name.parse()?, value)
         }
     }
 
-    fn set_payload(&mut self, heap: Global, value: &str) -> Result<(), RequestFault>
+    fn set_payload(&mut self, heap: Global, value: &str) -> Result<(), LineFault>
         ensures { AnswersPayload value.now self.old self.new result }
     {
-        match decode(heap, value.as_bytes())? {
-            Some(octets) => {
-                self.payload = octets;
-                Ok(())
-            }
-            None => Err(RequestFault::NotUnderstood),
-        }
+        self.payload = decode(heap, value.as_bytes())?;
+        Ok(())
     }
 
-    fn set_field(&mut self, field: Field, value: &str) -> Result<(), RequestFault>
+    fn set_field(&mut self, field: Field, value: &str) -> Result<(), LineFault>
         ensures { AnswersField field value.now self.old self.new result }
     {
-        match fields_with(&self.fields, field, value) {
-            Some(filled) => {
-                self.fields = filled;
-                Ok(())
-            }
-            None => Err(RequestFault::NotUnderstood),
-        }
+        self.fields = fields_with(&self.fields, field, value).ok_or(LineFault::NotUnderstood)?;
+        Ok(())
     }
 }

@@ -1,6 +1,6 @@
 // The fields of a packet, in their order: a line for each.
 use crate::units::YesNo;
-use crate::vectors_shown::{AreaLines, ShortVectorLines, SourceLines, Whose};
+use crate::vectors_shown::{AreaLines, LinesOf, SourceLines, Whose};
 use fields::sequence_number::SequenceNumber;
 use fields::traffic_class::TrafficClass;
 use packets::common::CommonHeader;
@@ -83,9 +83,9 @@ impl fmt::Display for ExtendedLines<'_> {
             Packet::Beacon(_, _) => write!(f, "{source}"),
             Packet::Unicast(h, _) => {
                 let number = NumberLine(h.number);
-                let destination = ShortVectorLines {
+                let destination = LinesOf {
                     whose: Whose::Destination,
-                    vector: h.destination,
+                    field: h.destination,
                 };
                 write!(f, "{number}{source}{destination}")
             }

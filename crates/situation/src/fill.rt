@@ -8,7 +8,7 @@ use crate::values::position_in;
 use fields::position::Position;
 use forwarding::course::Course;
 use ground::scale::EQUATOR;
-use request::numbers::{flag_in, u8_in, u16_in};
+use request::numbers::{flag_in, number_in};
 
 // The size of the text link's buffer, where none is told.
 pub const ROOM: u16 = 4_096;
@@ -41,14 +41,14 @@ pub fn fields_with(fields: &Fields, field: Field, text: &str) -> Option<Fields>
 {
     let mut filled = *fields;
     match field {
-        Field::Scale => filled.scale = u16_in(text)?,
+        Field::Scale => filled.scale = number_in(text)?,
         Field::Ours => filled.course.ours = position_in(text)?,
         Field::Target => filled.course.target = position_in(text)?,
         Field::Sender => filled.course.sender = Some(position_in(text)?),
-        Field::Radius => filled.radius = u16_in(text)?,
+        Field::Radius => filled.radius = number_in(text)?,
         Field::Held => filled.held = flag_in(text)?,
-        Field::Room => filled.room = u16_in(text)?,
-        Field::Times => filled.times = u8_in(text)?,
+        Field::Room => filled.room = number_in(text)?,
+        Field::Times => filled.times = number_in(text)?,
     }
     Some(filled)
 }

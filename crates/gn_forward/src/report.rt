@@ -8,6 +8,7 @@ use ground::flat::Flat;
 use ground::scale::EastScale;
 use ground::street::Street;
 use hex_digits::encode::Hex;
+use octets::fault::Fault;
 use radio_queue::queue::{FRAMES, RadioQueue};
 use situation::told::Situation;
 use std::io;

@@ -4,6 +4,7 @@ ghost use Rattle.packets.specs.Faults.{header_number, header_place, write_number
 ghost use Rattle.outcomes.specs.Reasons.{reason_number};
 
 use crate::reason::Reason;
+use octets::fault::Fault;
 use packets::fault::{HeaderFault, WriteFault};
 use std::fmt;
 

@@ -54,9 +54,9 @@ fn common_with(common: CommonHeader, field: CommonField, value: &str) -> Option<
         CommonField::TrafficClass => filled.traffic_class = TrafficClass {
             octet: number_in(value)?,
         },
-        CommonField::UpperProtocol => filled.upper_protocol = UpperProtocol::new(number_in(
-            value,
-        )?)?,
+        CommonField::UpperProtocol => {
+            filled.upper_protocol = number_in::<u8>(value)?.try_into().ok()?;
+        }
         CommonField::Mobile => filled.mobile = flag_in(value)?,
     }
     Some(filled)

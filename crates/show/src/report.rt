@@ -1,5 +1,5 @@
 // The answers to the lines.
-use crate::packet_lines::{KindName, PacketLines};
+use crate::packet_lines::PacketLines;
 use outcomes::refusal::Refusal;
 use outcomes::taken::Taken;
 use packets::fault::HeaderFault;
@@ -30,7 +30,7 @@ impl fmt::Display for Report<'_> {
         let line = self.line;
         match self.outcome {
             Ok(taken) => {
-                let kind = KindName(taken.packet.kind());
+                let kind = taken.packet.kind();
                 let count = taken.count;
                 let fields = PacketLines(taken.packet);
                 let octets = if taken.same { "the same" } else { "other" };

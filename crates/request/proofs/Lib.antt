@@ -1,3 +1,2 @@
 pub mod Chain
-pub mod Worded
 pub mod Cutting

@@ -1,3 +1,4 @@
+pub mod Answered
 pub mod Asked
 pub mod Cuts
 pub mod Faults

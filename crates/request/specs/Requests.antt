@@ -17,11 +17,6 @@ Takes word before after = AnswersWord word before after (Ok tt)
 abbrev pub Meaningless : List ℕ → Request → Type 0
 Meaningless word before = (IsUtf8 word → ⊥) ⊎ AnswersWord word before before (Err NotUnderstood)
 
-abbrev pub AnswersOctets : List ℕ → Request → Request → Result (Unit {0}) LineFault → Type 0
-AnswersOctets word before after (Ok u) = Takes word before after
-AnswersOctets word before after (Err NotUnderstood) = Meaningless word before
-AnswersOctets word before after (Err NoMemory) = Unit {0}
-
 -- nothing is asked for but a kind
 pub record Begins (word : List ℕ) (start : Request) : Type 0 where
   pub kind : word ≡ kind_name start.kind

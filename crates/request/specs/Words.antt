@@ -1,6 +1,7 @@
 -- What one word does to a request. Assumes nothing.
-use Rattle.std.specs.Prelude.{◌≡◌, ℕ, ◌<◌, ◌⊎◌, List, ◌∷◌, ◌++◌, length, Some, None, Ok, Err, vec_items, codes, Result, ◌≢◌, slice_index}
+use Rattle.std.specs.Prelude.{◌≡◌, ℕ, ◌<◌, ◌⊎◌, List, length, Some, None, Ok, Err, vec_items, codes, Result, ◌≢◌, slice_index}
 use Rattle.hex_digits.specs.Hex.{decoded}
+use Rattle.request.specs.Answered.{Splits}
 use Rattle.request.specs.Asked.{fields_with}
 use Rattle.request.specs.Names.{field_name}
 use Rattle.request.specs.declared.asked.Request.{Request}
@@ -48,11 +49,6 @@ AnswersField field text before after (Err fault) = Refuses (fields_with field te
 abbrev pub AnswersSet : List ℕ → List ℕ → Request → Request → Result (Unit {0}) LineFault → Type 0
 AnswersSet name text before after (Ok u) = Sets name text before after
 AnswersSet name text before after (Err fault) = Refuses (Senseless name text before) before after fault
-
--- a word is a name, the first `=`, and a text
-pub record Splits (word name text : List ℕ) : Type 0 where
-  pub whole : word ≡ name ++ (61 ∷ text)
-  pub first : (i : ℕ) → i < length name → slice_index name i ≢ 61
 
 -- what a word does, and why one is not understood
 abbrev pub AnswersWord : List ℕ → Request → Request → Result (Unit {0}) LineFault → Type 0

@@ -11,4 +11,5 @@ pub mod lookup;
 pub mod make;
 pub mod names;
 pub mod numbers;
+pub mod take;
 pub mod words;

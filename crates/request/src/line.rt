@@ -1,11 +1,12 @@
 // A request, from the words of a line.
 ghost use Rattle.request.specs.Cuts.{words_of};
-ghost use Rattle.request.specs.Requests.{AnswersKind, AnswersOctets, Requested};
+ghost use Rattle.request.specs.Requests.{AnswersKind, Requested};
 
 use crate::asked::Request;
 use crate::cut::Words;
 use crate::fault::LineFault;
 use crate::lookup::kind_named;
+use crate::take::take_words;
 use std::alloc::Global;
 use std::str::from_utf8;
 
@@ -16,9 +17,7 @@ pub fn request_in(heap: Global, text: &[u8]) -> Result<Request, LineFault>
     let mut words = Words(text);
     let kind = words.next().ok_or(LineFault::NotUnderstood)?;
     let mut request = new_request(heap, kind)?;
-    for word in words {
-        take_octets(&mut request, heap, word)?;
-    }
+    take_words(&mut request, heap, words)?;
     Ok(request)
 }
 
@@ -28,11 +27,4 @@ fn new_request(heap: Global, word: &[u8]) -> Result<Request, LineFault>
 {
     let kind = kind_named(from_utf8(word)?)?;
     Ok(Request::new(heap, kind))
-}
-
-// Sets what a word names; octets that are no text name nothing.
-fn take_octets(request: &mut Request, heap: Global, word: &[u8]) -> Result<(), LineFault>
-    ensures { AnswersOctets word.now request.old request.new result }
-{
-    request.take_word(heap, from_utf8(word)?)
 }

@@ -1,13 +1,14 @@
 // A request, word by word.
 ghost use Rattle.std.specs.Prelude.{◌≡◌, []};
 ghost use Rattle.request.specs.Asked.{no_fields};
-ghost use Rattle.request.specs.Words.{AnswersSet, AnswersWord, AnswersPayload, AnswersField};
+ghost use Rattle.request.specs.Words.{AnswersSet, AnswersPayload, AnswersField};
 
 use crate::asked::Request;
 use crate::blank::no_fields;
 use crate::fault::LineFault;
 use crate::fill::fields_with;
 use crate::names::Field;
+use crate::take::SetByName;
 use hex_digits::decode::decode;
 use packets::kind::Kind;
 use std::alloc::Global;
@@ -26,24 +27,6 @@ impl Request {
         }
     }
 
-    // Sets what the word `name=value` names. A word that is refused leaves the request as it was.
-    pub(crate) fn take_word(&mut self, heap: Global, word: &str) -> Result<(), LineFault>
-        ensures { AnswersWord word.now self.old self.new result }
-    {
-        let (name, value) = word.split_once('=').ok_or(LineFault::NotUnderstood)?;
-        self.set(heap, name, value)
-    }
-
-    fn set(&mut self, heap: Global, name: &str, value: &str) -> Result<(), LineFault>
-        ensures { AnswersSet name.now value.now self.old self.new result }
-    {
-        if name == "payload" {
-            self.set_payload(heap, value)
-        } else {
-            self.set_field(name.parse()?, value)
-        }
-    }
-
     fn set_payload(&mut self, heap: Global, value: &str) -> Result<(), LineFault>
         ensures { AnswersPayload value.now self.old self.new result }
     {
@@ -56,5 +39,18 @@ impl Request {
     {
         self.fields = fields_with(&self.fields, field, value).ok_or(LineFault::NotUnderstood)?;
         Ok(())
+    }
+}
+
+// A name or a value that is refused leaves the request as it was.
+impl SetByName for Request {
+    ghost setting = { AnswersSet };
+
+    fn set(&mut self, heap: Global, name: &str, value: &str) -> Result<(), LineFault> {
+        if name == "payload" {
+            self.set_payload(heap, value)
+        } else {
+            self.set_field(name.parse()?, value)
+        }
     }
 }

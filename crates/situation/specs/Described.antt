@@ -56,14 +56,9 @@ Answers told before after (Err NoMemory) = told_by after ≡ told_by before
 abbrev pub AnswersSet : Name → List ℕ → Situation → Situation → Result (Unit {0}) LineFault → Type 0
 AnswersSet name text before after r = Answers (settled name text (told_by before)) before after r
 
-abbrev pub AnswersWord : List ℕ → Situation → Situation → Result (Unit {0}) LineFault → Type 0
-AnswersWord word before after r = Answers (taken word (told_by before)) before after r
-
--- octets that are no text are not understood
-abbrev pub AnswersOctets : List ℕ → Situation → Situation → Result (Unit {0}) LineFault → Type 0
-AnswersOctets word before after (Ok u) = taken word (told_by before) ≡ Some (told_by after)
-AnswersOctets word before after (Err NotUnderstood) = ((IsUtf8 word → ⊥) ⊎ (taken word (told_by before) ≡ None)) × (told_by after ≡ told_by before)
-AnswersOctets word before after (Err NoMemory) = told_by after ≡ told_by before
+-- what a name stands for, in words
+abbrev pub AnswersNamed : List ℕ → List ℕ → Situation → Situation → Result (Unit {0}) LineFault → Type 0
+AnswersNamed name text before after r = Answers (and_then (name_in name) (λ n. settled n text (told_by before))) before after r
 
 -- one of the words is no text
 abbrev pub NoText : List (List ℕ) → Type 0

@@ -1,17 +1,16 @@
 // A situation, word by word.
 ghost use Rattle.std.specs.Prelude.{◌≡◌, IfOk};
-ghost use Rattle.situation.specs.Described.{told_by, blank, AnswersSet, AnswersWord, AnswersOctets};
+ghost use Rattle.situation.specs.Described.{told_by, blank, AnswersSet, AnswersNamed};
 
 use crate::fill::{fields_with, no_fields};
-use crate::halves::halves;
 use crate::names::{Field, Name};
 use crate::told::Situation;
 use crate::values::station_in;
 use hex_digits::decode::decode;
 use location_table::table::LocationTable;
 use request::fault::LineFault;
+use request::take::SetByName;
 use std::alloc::{AllocError, Global};
-use std::str::from_utf8;
 
 impl Situation {
     // Every field left out, no station and no octets.
@@ -25,25 +24,6 @@ impl Situation {
             table,
             packet,
         })
-    }
-
-    // Sets what a word names; octets that are no text name nothing. A refusal leaves all as it was.
-    pub fn take_octets(&mut self, heap: Global, word: &[u8]) -> Result<(), LineFault>
-        ensures { AnswersOctets word.now self.old self.new result }
-    {
-        self.take_word(heap, from_utf8(word)?)
-    }
-
-    // Sets what the word `name=value` names. A refusal leaves all as it was.
-    pub fn take_word(&mut self, heap: Global, word: &str) -> Result<(), LineFault>
-        ensures { AnswersWord word.now self.old self.new result }
-    {
-        let (name, value) = halves(word, '=').ok_or(LineFault::NotUnderstood)?;
-        match name.parse()? {
-            Name::Field(field) => self.set_field(field, value),
-            Name::Station => self.add_station(value),
-            Name::Packet => self.set_packet(heap, value),
-        }
     }
 
     fn set_field(&mut self, field: Field, text: &str) -> Result<(), LineFault>
@@ -68,5 +48,18 @@ impl Situation {
     {
         self.packet = decode(heap, text.as_bytes())?;
         Ok(())
+    }
+}
+
+// A name or a value that is refused leaves all as it was.
+impl SetByName for Situation {
+    ghost setting = { AnswersNamed };
+
+    fn set(&mut self, heap: Global, name: &str, value: &str) -> Result<(), LineFault> {
+        match name.parse()? {
+            Name::Field(field) => self.set_field(field, value),
+            Name::Station => self.add_station(value),
+            Name::Packet => self.set_packet(heap, value),
+        }
     }
 }

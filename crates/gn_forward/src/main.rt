@@ -4,7 +4,7 @@
 
 mod distances;
 mod links;
-mod measure;
+mod on_ground;
 mod report;
 mod shown;
 mod steps;

@@ -1,6 +1,6 @@
 // Why a ground is not made.
 ghost use Rattle.std.specs.Prelude.{◌≡◌};
-ghost use Rattle.ground.specs.Faults.{number, place};
+ghost use Rattle.ground.specs.Faults.{number, place, words};
 
 use std::error::Error;
 use std::fmt;
@@ -29,6 +29,8 @@ impl GroundFault {
 }
 
 impl fmt::Display for GroundFault {
+    ghost output = { words };
+
     fn fmt<W: fmt::Write>(&self, f: &mut fmt::Formatter<W>) -> fmt::Result {
         f.write_str(match self {
             GroundFault::ScaleTooLarge => "the east scale is above 1113",

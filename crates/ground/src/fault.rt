@@ -1,5 +1,5 @@
 // Why a ground is not made.
-ghost use Rattle.ground.specs.Faults.{number, place};
+ghost use Rattle.ground.specs.Faults.{number, place, words};
 
 use octets::fault::Fault;
 use std::error::Error;
@@ -29,6 +29,8 @@ impl Fault for GroundFault {
 }
 
 impl fmt::Display for GroundFault {
+    ghost output = { words };
+
     fn fmt<W: fmt::Write>(&self, f: &mut fmt::Formatter<W>) -> fmt::Result {
         f.write_str(match self {
             GroundFault::ScaleTooLarge => "the east scale is above 1113",

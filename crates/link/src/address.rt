@@ -16,6 +16,7 @@ pub const BROADCAST: LinkAddress = LinkAddress { octets: [255; 6] };
 impl From<Address> for LinkAddress {
     ghost from_gives = { λ address link. link ≡ link_address address };
 
+    #[tactic(auto, using(crate::proofs::Sixes::last_six))]
     fn from(address: Address) -> LinkAddress {
         let [_, _, a, b, c, d, e, f] = address.value.to_be_bytes();
         LinkAddress {

@@ -1,5 +1,5 @@
 // Stations enter the table at its end.
-ghost use Rattle.std.specs.Prelude.{◌≡◌, [], length, IfOk, nat_lt};
+ghost use Rattle.std.specs.Prelude.{◌≡◌, [], length, Some, IfOk, nat_lt, codes};
 ghost use Rattle.location_table.specs.Entries.{entered, entering};
 
 use super::LocationTable;
@@ -16,6 +16,8 @@ pub const STATIONS: usize = 64;
 pub struct TableFull;
 
 impl fmt::Display for TableFull {
+    ghost output = { λ _. Some (codes "the location table is full") };
+
     fn fmt<W: fmt::Write>(&self, f: &mut fmt::Formatter<W>) -> fmt::Result {
         f.write_str("the location table is full")
     }

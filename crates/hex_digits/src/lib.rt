@@ -5,3 +5,5 @@ pub mod decode;
 pub mod encode;
 pub mod fault;
 pub mod number;
+#[cfg(test)]
+mod tests;

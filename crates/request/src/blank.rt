@@ -16,6 +16,7 @@ use vectors::area::Area;
 use vectors::long::LongPositionVector;
 use vectors::short::ShortPositionVector;
 
+// No derive of Default: the types of the fields are of other crates, and have none.
 pub(crate) fn no_fields() -> Fields
     ensures { result ≡ no_fields }
 {

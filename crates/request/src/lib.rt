@@ -12,4 +12,6 @@ pub mod make;
 pub mod names;
 pub mod numbers;
 pub mod take;
+#[cfg(test)]
+mod tests;
 pub mod words;

@@ -1,5 +1,5 @@
 -- The table of kinds. Assumes nothing.
-use Rattle.std.specs.Prelude.{ℕ, Bool, true, false, cond, Some, None, Option, Result, ◌==◌}
+use Rattle.std.specs.Prelude.{ℕ, Bool, true, false, cond, List, Some, None, Option, Result, codes, ◌==◌}
 use Rattle.std.specs.Option.{ok_or}
 use Rattle.packets.specs.declared.kind.UnknownKind.{UnknownKind}
 use Rattle.packets.specs.declared.kind.Kind.{Kind}
@@ -23,6 +23,15 @@ kind_of b =
 -- the same, with the octet where there is none
 abbrev pub kind_from : ℕ → Result Kind UnknownKind
 kind_from b = ok_or (kind_of b) (record { octet = b })
+
+-- what a kind is called
+abbrev pub kind_name : Kind → List ℕ
+kind_name Beacon = codes "beacon"
+kind_name Unicast = codes "unicast"
+kind_name Anycast = codes "anycast"
+kind_name Broadcast = codes "broadcast"
+kind_name SingleHop = codes "single-hop"
+kind_name MultiHop = codes "multi-hop"
 
 -- the octets before the payload
 abbrev pub headers_of : Kind → ℕ

@@ -1,6 +1,6 @@
 // The kinds of packet.
-ghost use Rattle.std.specs.Prelude.{◌≡◌};
-ghost use Rattle.packets.specs.Kinds.{kind_from, kind_octet, headers_of, payload_limit};
+ghost use Rattle.std.specs.Prelude.{◌≡◌, Some};
+ghost use Rattle.packets.specs.Kinds.{kind_from, kind_name, kind_octet, headers_of, payload_limit};
 
 use std::fmt;
 
@@ -50,6 +50,8 @@ impl From<Kind> for u8 {
 
 // The name of the kind.
 impl fmt::Display for Kind {
+    ghost output = { λ kind. Some (kind_name kind) };
+
     fn fmt<W: fmt::Write>(&self, f: &mut fmt::Formatter<W>) -> fmt::Result {
         f.write_str(match self {
             Kind::Beacon => "beacon",

@@ -3,7 +3,7 @@ use Rattle.std.specs.Prelude.{◌≡◌, ℕ, ◌⊎◌, List, [], ◌∷◌, Ok
 use Rattle.packets.specs.declared.kind.Kind.{Kind}
 use Rattle.packets.specs.Contents.{Content}
 use Rattle.request.specs.Asked.{no_fields, packet_of}
-use Rattle.request.specs.Names.{kind_name}
+use Rattle.packets.specs.Kinds.{kind_name}
 use Rattle.request.specs.Words.{AnswersWord}
 use Rattle.request.specs.declared.asked.Request.{Request}
 use Rattle.request.specs.declared.fault.LineFault.{LineFault}

@@ -26,7 +26,7 @@ impl Answer for Make {
     }
 }
 
-// Writes the octets of the packet that was asked for, or why it is not written.
+// Writes the octets of the packet that was asked for, or why it is not written. The writer fills a fixed buffer.
 fn print_packet(rt: &HostRuntime, number: u64, request: &Request) -> io::Result<()> {
     let mut buffer = [0; 1458];
     match write_request(request, &mut buffer) {

@@ -10,6 +10,7 @@ pub trait Answer {
 }
 
 // Answers each line that is not passed over, up to the end of standard input.
+// By read_until and not by split: a carriage return is passed over only before a line feed.
 pub fn answer_all<A: Answer>(rt: &HostRuntime, program: &A) -> io::Result<()> {
     let mut input = BufReader::new(rt.alloc(), rt.stdin())?;
     let mut line = Vec::new(rt.alloc());

@@ -18,7 +18,7 @@ pub fn examine<'a>(octets: &'a [u8]) -> Result<Taken<'a>, HeaderFault>
     })
 }
 
-// Whether the packet that the octets are is written as these octets.
+// Whether the packet that the octets are is written as these octets. The writer fills a fixed buffer and takes no heap.
 fn written_back(octets: &[u8]) -> bool
     ensures { WrittenBack octets.now result }
 {

@@ -1,7 +1,8 @@
 -- The table of kinds. Assumes nothing.
-use Rattle.std.specs.Prelude.{ℕ, Bool, true, false, cond, List, Some, None, Option, Result, codes, ◌==◌}
+use Rattle.std.specs.Prelude.{◌≡◌, ◌≢◌, ℕ, Bool, true, false, cond, List, Some, None, Option, Ok, Err, Result, codes, ◌==◌}
 use Rattle.std.specs.Option.{ok_or}
 use Rattle.packets.specs.declared.kind.UnknownKind.{UnknownKind}
+use Rattle.packets.specs.declared.kind.UnknownName.{UnknownName}
 use Rattle.packets.specs.declared.kind.Kind.{Kind}
 use Rattle.packets.specs.declared.kind.Kind.TheVariants.{Beacon, Unicast, Anycast, Broadcast, SingleHop, MultiHop}
 
@@ -32,6 +33,11 @@ kind_name Anycast = codes "anycast"
 kind_name Broadcast = codes "broadcast"
 kind_name SingleHop = codes "single-hop"
 kind_name MultiHop = codes "multi-hop"
+
+-- the answer to a name: the kind that has it, or that no kind has
+abbrev pub KindNamed : List ℕ → Result Kind UnknownName → Type 0
+KindNamed name (Ok kind) = name ≡ kind_name kind
+KindNamed name (Err e) = (kind : Kind) → name ≢ kind_name kind
 
 -- the octets before the payload
 abbrev pub headers_of : Kind → ℕ

@@ -1,8 +1,9 @@
 // The kinds of packet.
 ghost use Rattle.std.specs.Prelude.{◌≡◌, Some};
-ghost use Rattle.packets.specs.Kinds.{kind_from, kind_name, kind_octet, headers_of, payload_limit};
+ghost use Rattle.packets.specs.Kinds.{kind_from, kind_name, KindNamed, kind_octet, headers_of, payload_limit};
 
 use std::fmt;
+use std::str::FromStr;
 
 // With type and subtype as their numbers.
 #[derive(Clone, Copy, Debug, PartialEq, Eq)]
@@ -45,6 +46,29 @@ impl From<Kind> for u8 {
 
     fn from(kind: Kind) -> u8 {
         kind as u8
+    }
+}
+
+// A text that is no kind's name.
+#[derive(Clone, Copy, Debug, PartialEq, Eq)]
+pub struct UnknownName;
+
+// Names are in lower case.
+impl FromStr for Kind {
+    type Err = UnknownName;
+
+    ghost from_str_gives = { KindNamed };
+
+    fn from_str(name: &str) -> Result<Kind, UnknownName> {
+        match name {
+            "beacon" => Ok(Kind::Beacon),
+            "unicast" => Ok(Kind::Unicast),
+            "anycast" => Ok(Kind::Anycast),
+            "broadcast" => Ok(Kind::Broadcast),
+            "single-hop" => Ok(Kind::SingleHop),
+            "multi-hop" => Ok(Kind::MultiHop),
+            _ => Err(UnknownName),
+        }
     }
 }
 

@@ -16,29 +16,29 @@ use vectors::area::Area;
 use vectors::long::LongPositionVector;
 use vectors::short::ShortPositionVector;
 
-// No derive of Default: the types of the fields are of other crates, and have none.
-pub(crate) fn no_fields() -> Fields
-    ensures { result ≡ no_fields }
-{
-    Fields {
-        common: no_common(),
-        number: SequenceNumber { value: 0 },
-        source: LongPositionVector {
-            short: no_vector(),
-            motion: Motion { bits: 0 },
-            heading: 0,
-        },
-        destination: no_vector(),
-        area: Area {
-            centre: Position {
-                latitude: 0,
-                longitude: 0,
+// No derive: the types of the fields are of other crates, and have no default.
+impl Default for Fields {
+    ghost is_default = { λ fields. fields ≡ no_fields };
+
+    fn default() -> Fields {
+        let vector = no_vector();
+        Fields {
+            common: no_common(),
+            number: SequenceNumber { value: 0 },
+            source: LongPositionVector {
+                short: vector,
+                motion: Motion { bits: 0 },
+                heading: 0,
             },
-            radius: 0,
-            distance_b: 0,
-            angle: 0,
-        },
-        media: 0,
+            destination: vector,
+            area: Area {
+                centre: vector.position,
+                radius: 0,
+                distance_b: 0,
+                angle: 0,
+            },
+            media: 0,
+        }
     }
 }
 

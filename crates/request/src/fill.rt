@@ -19,26 +19,33 @@ use vectors::area::Area;
 use vectors::long::LongPositionVector;
 use vectors::short::ShortPositionVector;
 
-pub(crate) fn fields_with(fields: &Fields, field: Field, value: &str) -> Option<Fields>
-    ensures { result ≡ fields_with field value.now fields.now }
-{
-    let mut filled = *fields;
-    match field {
-        Field::Common(part) => filled.common = common_with(fields.common, part, value)?,
-        Field::Source(part) => filled.source.short = vector_with(fields.source.short, part, value)?,
-        Field::Motion(part) => filled.source = motion_with(fields.source, part, value)?,
-        Field::Destination(part) => filled.destination = vector_with(
-            fields.destination,
-            part,
-            value,
-        )?,
-        Field::Area(part) => filled.area = area_with(fields.area, part, value)?,
-        Field::Number => filled.number = SequenceNumber {
-            value: number_in(value)?,
-        },
-        Field::Media => filled.media = u32_of(value.as_bytes())?,
+impl Fields {
+    // The fields with one of them set.
+    pub(crate) fn with(&self, field: Field, value: &str) -> Option<Fields>
+        ensures { result ≡ fields_with field value.now self.now }
+    {
+        let mut filled = *self;
+        match field {
+            Field::Common(part) => filled.common = common_with(self.common, part, value)?,
+            Field::Source(part) => filled.source.short = vector_with(
+                self.source.short,
+                part,
+                value,
+            )?,
+            Field::Motion(part) => filled.source = motion_with(self.source, part, value)?,
+            Field::Destination(part) => filled.destination = vector_with(
+                self.destination,
+                part,
+                value,
+            )?,
+            Field::Area(part) => filled.area = area_with(self.area, part, value)?,
+            Field::Number => filled.number = SequenceNumber {
+                value: number_in(value)?,
+            },
+            Field::Media => filled.media = u32_of(value.as_bytes())?,
+        }
+        Some(filled)
     }
-    Some(filled)
 }
 
 fn common_with(common: CommonHeader, field: CommonField, value: &str) -> Option<CommonHeader>

@@ -3,10 +3,8 @@ ghost use Rattle.std.specs.Prelude.{◌≡◌, []};
 ghost use Rattle.request.specs.Asked.{no_fields};
 ghost use Rattle.request.specs.Words.{AnswersSet, AnswersPayload, AnswersField};
 
-use crate::asked::Request;
-use crate::blank::no_fields;
+use crate::asked::{Fields, Request};
 use crate::fault::LineFault;
-use crate::fill::fields_with;
 use crate::names::Field;
 use crate::take::SetByName;
 use hex_digits::decode::decode;
@@ -22,7 +20,7 @@ impl Request {
     {
         Request {
             kind,
-            fields: no_fields(),
+            fields: Fields::default(),
             payload: Vec::new(heap),
         }
     }
@@ -37,7 +35,10 @@ impl Request {
     fn set_field(&mut self, field: Field, value: &str) -> Result<(), LineFault>
         ensures { AnswersField field value.now self.old self.new result }
     {
-        self.fields = fields_with(&self.fields, field, value).ok_or(LineFault::NotUnderstood)?;
+        self.fields = self
+            .fields
+            .with(field, value)
+            .ok_or(LineFault::NotUnderstood)?;
         Ok(())
     }
 }

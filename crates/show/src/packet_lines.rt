@@ -1,4 +1,4 @@
-// The fields of a packet, in their order: a line for each.
+// The fields of a packet, in their order: a line for each. The types are of other crates, so each is wrapped to be shown.
 use crate::units::YesNo;
 use crate::vectors_shown::{AreaLines, LinesOf, SourceLines, Whose};
 use fields::sequence_number::SequenceNumber;

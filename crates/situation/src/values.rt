@@ -1,4 +1,4 @@
-// Positions and stations, with commas between their parts.
+// Positions and stations, with commas between their parts. By functions: the types are of other crates.
 ghost use Rattle.std.specs.Prelude.{◌≡◌};
 ghost use Rattle.situation.specs.Values.{position_in, station_in, station_from};
 

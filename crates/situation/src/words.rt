@@ -2,9 +2,8 @@
 ghost use Rattle.std.specs.Prelude.{◌≡◌, IfOk};
 ghost use Rattle.situation.specs.Described.{told_by, blank, AnswersSet, AnswersNamed};
 
-use crate::fill::{fields_with, no_fields};
 use crate::names::{Field, Name};
-use crate::told::Situation;
+use crate::told::{Fields, Situation};
 use crate::values::station_in;
 use hex_digits::decode::decode;
 use location_table::table::LocationTable;
@@ -20,7 +19,7 @@ impl Situation {
         let table = LocationTable::new(heap)?;
         let packet = Vec::new(heap);
         Ok(Situation {
-            fields: no_fields(),
+            fields: Fields::default(),
             table,
             packet,
         })
@@ -29,7 +28,10 @@ impl Situation {
     fn set_field(&mut self, field: Field, text: &str) -> Result<(), LineFault>
         ensures { AnswersSet (Name.Field field) text.now self.old self.new result }
     {
-        self.fields = fields_with(&self.fields, field, text).ok_or(LineFault::NotUnderstood)?;
+        self.fields = self
+            .fields
+            .with(field, text)
+            .ok_or(LineFault::NotUnderstood)?;
         Ok(())
     }
 

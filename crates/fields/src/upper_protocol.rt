@@ -52,14 +52,14 @@ impl From<UpperProtocol> for u8 {
 }
 
 impl UpperProtocol {
-    // The upper protocol in the high four bits of an octet.
+    // The upper protocol in the high four bits of an octet. No From: an octet says more than that.
     pub fn from_octet(octet: u8) -> UpperProtocol
         ensures { result ≡ upper_of (octet / 16) }
     {
         UpperProtocol::of_four_bits(octet / 16)
     }
 
-    // The upper protocol of a number below 16; a greater one counts as 15.
+    // The upper protocol of a number below 16; a greater one counts as 15. No From: that is only the step of the others.
     fn of_four_bits(number: u8) -> UpperProtocol
         ensures { result ≡ upper_of number }
     {

@@ -14,6 +14,7 @@ pub fn rounds(situation: &Situation, scale: EastScale, links: &mut Links) -> Opt
     ensures { Rounds situation.now.fields.times situation.now scale.value links.old links.new result }
 {
     let mut last = None;
+    // Not a count of places: so many times over.
     for time in 0..situation.fields.times {
         last = Some(round(situation, scale, links));
     }

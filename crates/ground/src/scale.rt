@@ -4,6 +4,7 @@ ghost use Rattle.ground.specs.declared.fault.GroundFault.TheVariants.{ScaleTooLa
 
 use crate::fault::GroundFault;
 
+// A ghost field and no Model: the law of grounds asks for the bound of every value.
 #[derive(Clone, Copy)]
 pub struct EastScale {
     value: u16,

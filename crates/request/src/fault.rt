@@ -4,6 +4,7 @@ ghost use Rattle.request.specs.Faults.{fault_of};
 ghost use Rattle.request.specs.declared.fault.LineFault.TheVariants.{NotUnderstood, NoMemory};
 
 use hex_digits::fault::HexFault;
+use packets::kind::UnknownName;
 use std::alloc::AllocError;
 use std::str::Utf8Error;
 
@@ -30,6 +31,15 @@ impl From<HexFault> for LineFault {
             HexFault::NotOctets => LineFault::NotUnderstood,
             HexFault::NoMemory => LineFault::NoMemory,
         }
+    }
+}
+
+// A name that no kind has.
+impl From<UnknownName> for LineFault {
+    ghost from_gives = { λ _ r. r ≡ NotUnderstood };
+
+    fn from(_e: UnknownName) -> LineFault {
+        LineFault::NotUnderstood
     }
 }
 

@@ -5,7 +5,6 @@ ghost use Rattle.request.specs.Requests.{AnswersKind, Requested};
 use crate::asked::Request;
 use crate::cut::Words;
 use crate::fault::LineFault;
-use crate::lookup::kind_named;
 use crate::take::take_words;
 use std::alloc::Global;
 use std::str::from_utf8;
@@ -25,6 +24,6 @@ pub fn request_in(heap: Global, text: &[u8]) -> Result<Request, LineFault>
 fn new_request(heap: Global, word: &[u8]) -> Result<Request, LineFault>
     ensures { AnswersKind word.now result }
 {
-    let kind = kind_named(from_utf8(word)?)?;
+    let kind = from_utf8(word)?.parse()?;
     Ok(Request::new(heap, kind))
 }

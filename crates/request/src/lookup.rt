@@ -1,25 +1,9 @@
 // What a name stands for. Names are in lower case.
-ghost use Rattle.request.specs.Names.{Named, kind_name, field_name};
+ghost use Rattle.request.specs.Names.{Named, field_name};
 
 use crate::fault::LineFault;
 use crate::names::{AreaField, CommonField, Field, MotionField, VectorField};
-use packets::kind::Kind;
 use std::str::FromStr;
-
-// A function and no conversion: the type is of another crate.
-pub(crate) fn kind_named(name: &str) -> Result<Kind, LineFault>
-    ensures { Named kind_name name.now result }
-{
-    match name {
-        "beacon" => Ok(Kind::Beacon),
-        "unicast" => Ok(Kind::Unicast),
-        "anycast" => Ok(Kind::Anycast),
-        "broadcast" => Ok(Kind::Broadcast),
-        "single-hop" => Ok(Kind::SingleHop),
-        "multi-hop" => Ok(Kind::MultiHop),
-        _ => Err(LineFault::NotUnderstood),
-    }
-}
 
 // The field of a packet that has this name. The source's fields go by their plain names.
 impl FromStr for Field {

@@ -15,6 +15,7 @@ use roundtrip::trips::write_readable;
 
 // Writes the packet that was asked for over the front of the buffer, and answers how many octets it has; or the first
 // refusal that fits, and then the whole buffer stays. What was written is read as the packet that was asked for.
+// The buffer is the writer's, an array of the caller's.
 pub fn write_request(request: &Request, buffer: &mut [u8; 1458]) -> Result<usize, WriteFault>
     ensures value { result ≡ writing (packet_in request.now) }
     ensures after { buffer.new ≡ (if is_ok result then placed 0 (wire (packet_in request.now)) buffer.old else buffer.old) }

@@ -12,7 +12,7 @@ use reader::read::read;
 use writer::write::write;
 
 // Reads a packet and writes it over the front of the buffer. The octets are those that were read, if their reserved
-// bits are 0. A refused packet leaves the buffer as it was.
+// bits are 0. A refused packet leaves the buffer as it was. The buffer is the writer's, an array of the caller's.
 pub fn rewrite(octets: &[u8], buffer: &mut [u8; 1458]) -> Result<usize, HeaderFault>
     ensures { Rewritten octets.now buffer.old buffer.new result }
 {
@@ -20,7 +20,7 @@ pub fn rewrite(octets: &[u8], buffer: &mut [u8; 1458]) -> Result<usize, HeaderFa
     Ok(write(&packet, buffer).unwrap())
 }
 
-// Writes a packet as the writer does; what then stands in the front of the buffer is read as the same packet.
+// Writes a packet as the writer does, into the writer's buffer; what then stands in its front is read as the same packet.
 pub fn write_readable(packet: &Packet, buffer: &mut [u8; 1458]) -> Result<usize, WriteFault>
     ensures value { result ≡ writing (content packet.now) }
     ensures after { buffer.new ≡ (if is_ok result then placed 0 (wire (content packet.now)) buffer.old else buffer.old) }

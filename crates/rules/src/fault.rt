@@ -24,6 +24,7 @@ pub enum RouterFault {
     Destination,
 }
 
+// One impl for each fault that `?` passes up.
 impl From<HeaderFault> for RouterFault {
     ghost from_gives = { λ f r. r ≡ Packet f };
 

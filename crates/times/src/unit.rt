@@ -21,7 +21,7 @@ impl Unit {
         Unit::HundredSeconds,
     ];
 
-    // The unit that the low two bits of an octet stand for.
+    // The unit that the low two bits of an octet stand for. No From: an octet says more than that.
     pub fn of(octet: u8) -> Unit
         ensures { unit_number result ≡ octet % 4 }
     {

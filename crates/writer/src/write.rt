@@ -16,7 +16,7 @@ use packets::fault::WriteFault;
 use packets::packet::Packet;
 
 // Writes the packet over the front of the buffer, leaves the rest, and answers how many octets it has; or the first
-// refusal that fits, and then the whole buffer stays.
+// refusal that fits, and then the whole buffer stays. An array of the caller's and a count: no memory is asked for.
 pub fn write(packet: &Packet, buffer: &mut [u8; 1458]) -> Result<usize, WriteFault>
     ensures value { result ≡ writing (content packet.now) }
     ensures after { buffer.new ≡ (if is_ok result then placed 0 (wire (content packet.now)) buffer.old else buffer.old) }

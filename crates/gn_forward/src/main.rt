@@ -21,7 +21,7 @@ use std::io::{Error, ErrorKind};
 // The program: each line is a situation.
 struct Forward;
 
-impl Answer for Forward {
+impl Answer<HostRuntime> for Forward {
     fn answer(&self, rt: &HostRuntime, line: Line) -> io::Result<()> {
         let number = line.number;
         match situation_in(rt.alloc(), line.text) {

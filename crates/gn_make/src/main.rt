@@ -15,8 +15,8 @@ use std::io::{Error, ErrorKind};
 // The program: each line is a request.
 struct Make;
 
-impl Answer for Make {
-    fn answer(&self, rt: &HostRuntime, line: Line) -> io::Result<()> {
+impl<R: Print + AllocGlobal> Answer<R> for Make {
+    fn answer(&self, rt: &R, line: Line) -> io::Result<()> {
         let number = line.number;
         match request_in(rt.alloc(), line.text) {
             Ok(request) => print_packet(rt, number, &request),
@@ -27,7 +27,7 @@ impl Answer for Make {
 }
 
 // Writes the octets of the packet that was asked for, or why it is not written. The writer fills a fixed buffer.
-fn print_packet(rt: &HostRuntime, number: u64, request: &Request) -> io::Result<()> {
+fn print_packet(rt: &impl Print, number: u64, request: &Request) -> io::Result<()> {
     let mut buffer = [0; 1458];
     match write_request(request, &mut buffer) {
         Ok(count) => rt.println(Hex(&buffer[0..count])),

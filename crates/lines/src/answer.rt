@@ -1,18 +1,18 @@
-// A program that answers the lines of standard input, one after another.
+// A program that answers the lines of its input, one after another.
 use crate::line::{Line, content, is_passed_over};
 use std::io;
 use std::io::{BufRead, BufReader};
 
 // A trait and no closure: of a closure it would have to be asked that it may be called.
-pub trait Answer {
+pub trait Answer<R> {
     // Writes the answer to one line.
-    fn answer(&self, rt: &HostRuntime, line: Line) -> io::Result<()>;
+    fn answer(&self, rt: &R, line: Line) -> io::Result<()>;
 }
 
-// Answers each line that is not passed over, up to the end of standard input.
+// Answers each line that is not passed over, up to the end of the input.
 // By read_until and not by split: a carriage return is passed over only before a line feed.
-pub fn answer_all<A: Answer>(rt: &HostRuntime, program: &A) -> io::Result<()> {
-    let mut input = BufReader::new(rt.alloc(), rt.stdin())?;
+pub fn answer_all<R: Input + AllocGlobal, A: Answer<R>>(rt: &R, program: &A) -> io::Result<()> {
+    let mut input = BufReader::new(rt.alloc(), rt.reader())?;
     let mut line = Vec::new(rt.alloc());
     for number in 1..u64::MAX {
         line.clear();

@@ -12,8 +12,8 @@ use std::io::{Error, ErrorKind};
 // The program: each line is a packet.
 pub struct Show;
 
-impl Answer for Show {
-    fn answer(&self, rt: &HostRuntime, line: Line) -> io::Result<()> {
+impl<R: Print + AllocGlobal> Answer<R> for Show {
+    fn answer(&self, rt: &R, line: Line) -> io::Result<()> {
         match decode(rt.alloc(), line.text) {
             Ok(octets) => print_report(rt, line.number, octets.as_slice()),
             Err(HexFault::NotOctets) => rt.print(NotOctets { line: line.number }),
@@ -23,13 +23,13 @@ impl Answer for Show {
 }
 
 // Writes what came of the octets on a line.
-fn print_report(rt: &HostRuntime, line: u64, octets: &[u8]) -> io::Result<()> {
+fn print_report(rt: &impl Print, line: u64, octets: &[u8]) -> io::Result<()> {
     let mut buffer = ReceiveBuffer::new();
     let outcome = buffer.fill(octets).and_then(|_| examine(buffer.octets()));
     rt.print(Report { line, outcome })
 }
 
 // Takes apart the packets on standard input.
-pub fn run(rt: &HostRuntime) -> io::Result<()> {
+pub fn run<R: Input + Print + AllocGlobal>(rt: &R) -> io::Result<()> {
     answer_all(rt, &Show)
 }

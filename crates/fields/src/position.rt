@@ -11,7 +11,7 @@ pub const LATITUDE_LIMIT: u32 = 900_000_000;
 
 pub const LONGITUDE_LIMIT: u32 = 1_800_000_000;
 
-#[derive(Clone, Copy, Debug, PartialEq, Eq)]
+#[derive(Clone, Copy, Debug, Default, PartialEq, Eq)]
 pub struct Position {
     pub latitude: i32,
     pub longitude: i32,

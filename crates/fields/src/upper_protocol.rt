@@ -3,8 +3,9 @@ ghost use Rattle.std.specs.Prelude.{◌≡◌, ◌/◌, ◌<◌};
 ghost use Rattle.fields.specs.UpperProtocols.{upper_of, upper_from, upper_number};
 
 // The sixteen values that four bits have.
-#[derive(Clone, Copy, Debug, PartialEq, Eq)]
+#[derive(Clone, Copy, Debug, Default, PartialEq, Eq)]
 pub enum UpperProtocol {
+    #[default]
     Any,
     BtpA,
     BtpB,

@@ -2,7 +2,6 @@
 #![tactic(auto)]
 
 pub mod asked;
-pub mod blank;
 pub mod cut;
 pub mod fault;
 pub mod fill;

@@ -5,7 +5,7 @@ ghost use Rattle.times.specs.Units.{unit_number};
 
 use crate::unit::Unit;
 
-#[derive(Clone, Copy, Debug, PartialEq, Eq)]
+#[derive(Clone, Copy, Debug, Default, PartialEq, Eq)]
 pub struct Lifetime {
     pub octet: u8,
 }

@@ -7,7 +7,7 @@ use octets::read::FromOctets;
 use octets::write::ToOctets;
 
 // A circle, its radius in metres. It has no use for distance b and angle, and keeps them.
-#[derive(Clone, Copy, Debug, PartialEq, Eq)]
+#[derive(Clone, Copy, Debug, Default, PartialEq, Eq)]
 pub struct Area {
     pub centre: Position,
     pub radius: u16,

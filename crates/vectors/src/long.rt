@@ -8,7 +8,7 @@ use octets::read::FromOctets;
 use octets::write::ToOctets;
 
 // Where a station was, when, and how it moved; the heading is in tenths of a degree.
-#[derive(Clone, Copy, Debug, PartialEq, Eq)]
+#[derive(Clone, Copy, Debug, Default, PartialEq, Eq)]
 pub struct LongPositionVector {
     pub short: ShortPositionVector,
     pub motion: Motion,

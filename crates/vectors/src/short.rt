@@ -9,7 +9,7 @@ use octets::write::ToOctets;
 use times::timestamp::Timestamp;
 
 // Where a station was, and when.
-#[derive(Clone, Copy, Debug, PartialEq, Eq)]
+#[derive(Clone, Copy, Debug, Default, PartialEq, Eq)]
 pub struct ShortPositionVector {
     pub address: Address,
     pub timestamp: Timestamp,

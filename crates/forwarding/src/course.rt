@@ -5,7 +5,7 @@ ghost use Rattle.forwarding.specs.Questions.{sender_distance};
 use fields::position::Position;
 use ground::Ground;
 
-#[derive(Clone, Copy)]
+#[derive(Clone, Copy, Default)]
 pub struct Course {
     // Our position.
     pub ours: Position,

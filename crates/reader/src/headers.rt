@@ -1,4 +1,4 @@
-// The records of the kinds.
+// The records of the kinds. Unicast and area differ in their last vector, and stay two: each calls it by its own name.
 ghost use Rattle.std.specs.Prelude.{◌≡◌, ◌≤◌, length};
 ghost use Rattle.packets.specs.Common.{common_of};
 ghost use Rattle.packets.specs.Reading.{beacon_at, unicast_at, area_header_at, single_hop_at, multi_hop_at};

@@ -5,7 +5,6 @@ ghost use Rattle.situation.specs.Filled.{no_fields, fields_with};
 use crate::names::Field;
 use crate::told::Fields;
 use crate::values::position_in;
-use fields::position::Position;
 use forwarding::course::Course;
 use ground::scale::EQUATOR;
 use request::numbers::{flag_in, number_in};
@@ -18,17 +17,9 @@ impl Default for Fields {
     ghost is_default = { λ fields. fields ≡ no_fields };
 
     fn default() -> Fields {
-        let origin = Position {
-            latitude: 0,
-            longitude: 0,
-        };
         Fields {
             scale: EQUATOR.value(),
-            course: Course {
-                ours: origin,
-                sender: None,
-                target: origin,
-            },
+            course: Course::default(),
             radius: 0,
             held: false,
             room: ROOM,

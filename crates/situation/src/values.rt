@@ -47,14 +47,11 @@ fn station(address: Address, position: Position, neighbour: bool) -> Entry
     Entry {
         vector: ShortPositionVector {
             address,
-            timestamp: Timestamp { millis: 0 },
+            timestamp: Timestamp::default(),
             position,
         },
         heard: 0,
         neighbour,
-        numbers: RecentNumbers {
-            values: [0; 8],
-            count: 0,
-        },
+        numbers: RecentNumbers::default(),
     }
 }

@@ -1,5 +1,5 @@
 // Stations enter the table at its end.
-ghost use Rattle.std.specs.Prelude.{◌≡◌, [], length, Some, IfOk, nat_lt, codes};
+ghost use Rattle.std.specs.Prelude.{◌≡◌, ◌≤◌, [], length, Some, IfOk, nat_lt, codes};
 ghost use Rattle.location_table.specs.Entries.{entered, entering};
 
 use super::LocationTable;
@@ -36,7 +36,8 @@ impl LocationTable {
 
     // The stations, in order of entry.
     pub fn entries(&self) -> &[Entry]
-        ensures { result.now ≡ self.now }
+        ensures value { result.now ≡ self.now }
+        ensures few { length result.now ≤ 64 }
     {
         self.entries.as_slice()
     }

@@ -1,5 +1,5 @@
 // Making a queue, and what the radio does with it.
-ghost use Rattle.std.specs.Prelude.{◌≡◌, [], length, drop, slice_get, IfOk};
+ghost use Rattle.std.specs.Prelude.{◌≡◌, ◌≤◌, [], length, drop, slice_get, IfSome, IfOk};
 ghost use Rattle.std.specs.Option.{option_map};
 ghost use Rattle.radio_queue.specs.Queues.{viewed, head_of, first_over};
 
@@ -19,14 +19,16 @@ impl RadioQueue {
 
     // How many frames wait.
     pub fn len(&self) -> usize
-        ensures { result ≡ length self.now }
+        ensures value { result ≡ length self.now }
+        ensures few { result ≤ 8 }
     {
         self.frames.len()
     }
 
     // The frame that has waited longest.
     pub fn first(&self) -> Option<FrameView<'_>>
-        ensures { option_map viewed result ≡ slice_get self.now 0 }
+        ensures value { option_map viewed result ≡ slice_get self.now 0 }
+        ensures short { IfSome result (λ v. length v.packet.now ≤ 1458) }
     {
         let frame = self.frames.front()?;
         Some(FrameView {
@@ -40,6 +42,7 @@ impl RadioQueue {
         ensures value { result ≡ option_map head_of (slice_get self.old 0) }
         ensures frames { self.new ≡ drop 1 self.old }
         ensures packet { out.new ≡ first_over self.old out.old }
+        ensures short { IfSome result (λ h. h.count ≤ 1458) }
         ensures same { self.old ≡ [] → self.new ≡ self.old }
     {
         let frame = self.frames.pop_front()?;

@@ -1,5 +1,5 @@
 // Making a link, and reading its text.
-ghost use Rattle.std.specs.Prelude.{◌≡◌, [], IfOk};
+ghost use Rattle.std.specs.Prelude.{◌≡◌, ◌≤◌, [], length, IfOk};
 ghost use Rattle.text_link.specs.TextLinks.{frames_of};
 ghost use Rattle.text_link.specs.Texts.{lines};
 
@@ -18,6 +18,7 @@ impl TextLink {
     // The lines of the frames, one after another, and nothing else.
     pub fn text(&self) -> &[u8]
         ensures value { result.now ≡ self.now.text }
+        ensures within { length result.now ≤ self.now.limit }
         ensures lines { result.now ≡ lines (frames_of self.now) }
     {
         self.text.as_slice()

@@ -21,8 +21,8 @@ use std::io::{Error, ErrorKind};
 // The program: each line is a situation.
 struct Forward;
 
-impl Answer<HostRuntime> for Forward {
-    fn answer(&self, rt: &HostRuntime, line: Line) -> io::Result<()> {
+impl<R: Print + AllocGlobal> Answer<R> for Forward {
+    fn answer(&self, rt: &R, line: Line) -> io::Result<()> {
         let number = line.number;
         match situation_in(rt.alloc(), line.text) {
             Ok(situation) => print_situation(rt, number, &situation),

@@ -10,7 +10,11 @@ use situation::told::Situation;
 use std::io;
 
 // Does the steps of a situation and writes what came of them, or why there is no ground for them.
-pub fn print_situation(rt: &HostRuntime, line: u64, situation: &Situation) -> io::Result<()> {
+pub fn print_situation<R: Print + AllocGlobal>(
+    rt: &R,
+    line: u64,
+    situation: &Situation,
+) -> io::Result<()> {
     match EastScale::try_from(situation.fields.scale) {
         Ok(scale) => {
             let mut links = Links::new(rt.alloc(), situation.fields.room)?;
@@ -32,7 +36,7 @@ pub fn print_situation(rt: &HostRuntime, line: u64, situation: &Situation) -> io
 }
 
 // The frames of the queue, as the radio takes them off. The loop counts them, since each is printed with its number.
-fn print_queue(rt: &HostRuntime, queue: &mut RadioQueue) -> io::Result<()> {
+fn print_queue(rt: &impl Print, queue: &mut RadioQueue) -> io::Result<()> {
     let mut packet = [0; 1458];
     for number in 1..=FRAMES {
         let Some(head) = queue.take_first(&mut packet) else {

@@ -23,6 +23,7 @@ fn written_back(octets: &[u8]) -> bool
     ensures { WrittenBack octets.now result }
 {
     let mut buffer = [0; 1458];
+    // is_ok_and would say the same, but its proof does not close.
     let Ok(count) = rewrite(octets, &mut buffer) else {
         return false;
     };

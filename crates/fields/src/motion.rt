@@ -3,7 +3,7 @@ ghost use Rattle.std.specs.Prelude.{◌≡◌};
 ghost use Rattle.fields.specs.Motions.{accurate_in, speed_in, motion_from};
 
 // Sixteen bits, one for the flag and fifteen for the speed, so that neither has a value beyond its own.
-// Not a flag beside a speed that keeps its range: `?` on a read packet that held one has no rule where there is a `&mut`.
+// Not a flag beside a speed that keeps its range: then `read(octets)?` does not prove in a function that has a `&mut` too.
 #[derive(Clone, Copy, Debug, Default, PartialEq, Eq)]
 pub struct Motion {
     pub bits: u16,

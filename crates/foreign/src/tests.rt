@@ -9,7 +9,6 @@ use forwarding::course::Course;
 use forwarding::step::Forwarder;
 use ground::Ground;
 use ground::circle::is_inside;
-use link::address::LinkAddress;
 use location_table::entry::Entry;
 use location_table::numbers::RecentNumbers;
 use location_table::table::LocationTable;

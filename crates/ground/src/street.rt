@@ -1,5 +1,4 @@
 // The street ground: north, and then east. It has a scale as the flat ground has, and no more than that is alike.
-ghost use Rattle.std.specs.Prelude.{◌≡◌};
 ghost use Rattle.ground.specs.Spans.{along};
 ghost use Rattle.ground.specs.Bounds.{along-most};
 

@@ -15,3 +15,12 @@ fn an_odd_digit_is_no_octet(rt: HostRuntime) -> Result<(), Fail> {
     assert_eq!(rt; decode(rt.alloc(), b"c0f").err(), Some(HexFault::NotOctets));
     Ok(())
 }
+
+#[test]
+fn another_character_is_no_digit(rt: HostRuntime) -> Result<(), Fail> {
+    assert_eq!(rt;
+        decode(rt.alloc(), b"c0fg").err(),
+        Some(HexFault::NotOctets)
+    );
+    Ok(())
+}

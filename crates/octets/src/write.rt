@@ -1,5 +1,5 @@
 // Fields written at a place, big-endian. A field for which there is no room is refused, and the octets stay as they were.
-ghost use Rattle.std.specs.Prelude.{OnOk, ◌<◌, ◌≡◌, ℕ, ◌+◌, ◌-◌, ◌^◌, ◌≤◌, List, ◌++◌, length, min};
+ghost use Rattle.std.specs.Prelude.{OnOk, ◌<◌, ◌≡◌, ℕ, ◌+◌, ◌-◌, ◌^◌, List, ◌++◌, length, min};
 ghost use Rattle.octets.specs.Faults.{room_at};
 ghost use Rattle.octets.specs.Wire.{octets_of, placed, put_at, unsigned};
 ghost use Rattle.octets.specs.Widths.{length-octets_of, length-both};
@@ -127,7 +127,7 @@ impl ToOctets for i32 {
     ghost full = { λ number. length-octets_of 4 (unsigned 31 number) };
 
     fn width() -> usize {
-        4
+        u32::width()
     }
 
     fn write(&self, octets: &mut [u8], at: usize) -> Result<(), OctetFault> {

@@ -1,5 +1,5 @@
 // Contention-based forwarding: the more progress over the sender, the shorter the wait.
-ghost use Rattle.std.specs.Prelude.{◌≡◌, ◌≤◌};
+ghost use Rattle.std.specs.Prelude.{◌≡◌};
 ghost use Rattle.policy.specs.Choices.{contention, wait_for};
 ghost use Rattle.std.proofs.Common.{rules};
 

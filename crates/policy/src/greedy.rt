@@ -20,7 +20,7 @@ impl Policy for Greedy {
     {
         let mut best = ours;
         let mut choice = Choice::Nobody;
-        // A loop that keeps the best so far and no min_by_key: so the rule is told.
+        // A loop that keeps the best so far and no min_by_key: a rule of the project.
         for (index, &distance) in neighbours.iter().enumerate() {
             if distance < best {
                 best = distance;

@@ -19,13 +19,14 @@ pub struct RadioQueue {
 }
 
 impl Model for RadioQueue {
-    ghost use Rattle.std.specs.Prelude.{◌≤◌, List};
+    ghost use Rattle.std.specs.Prelude.{◌≤◌, List, All};
     ghost use Rattle.std.specs.VecDeque.{deque_len, deque_capacity};
     ghost use Rattle.link.specs.Frames.{Frame};
+    ghost use Rattle.radio_queue.specs.Shorts.{IsShort};
 
     ghost Value = { List Frame };
 
     ghost view = { λ q. q.frames.items };
 
-    ghost invariant = { λ q. (deque_len q.frames ≤ 8) × (8 ≤ deque_capacity q.frames) };
+    ghost invariant = { λ q. (deque_len q.frames ≤ 8) × (8 ≤ deque_capacity q.frames) × All IsShort q.frames.items };
 }

@@ -1,9 +1,7 @@
 // What is refused before the record of a packet is read.
-ghost use Rattle.std.specs.Prelude.{◌≡◌, ◌≤◌, length, OnOk};
-ghost use Rattle.packets.specs.Kinds.{headers_of};
-ghost use Rattle.packets.specs.Reading.{framing, lengths, limits};
+ghost use Rattle.std.specs.Prelude.{◌≡◌};
+ghost use Rattle.packets.specs.Reading.{limits};
 
-use octets::read::{FromOctets, check_room};
 use packets::common::CommonHeader;
 use packets::fault::HeaderFault;
 use packets::kind::Kind;

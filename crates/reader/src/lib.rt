@@ -3,5 +3,5 @@
 
 pub mod checks;
 mod framed;
-pub mod headers;
+mod headers;
 pub mod read;

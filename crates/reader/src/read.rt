@@ -5,9 +5,6 @@ ghost use Rattle.packets.specs.Reading.{reading};
 
 use crate::checks::check_limits;
 use crate::framed::Framed;
-use crate::headers::{
-    read_area_header, read_beacon, read_multi_hop, read_single_hop, read_unicast,
-};
 use packets::fault::HeaderFault;
 use packets::kind::Kind;
 use packets::packet::Packet;
@@ -18,16 +15,15 @@ pub fn read<'a>(octets: &'a [u8]) -> Result<Packet<'a>, HeaderFault>
 {
     let framed = Framed::new(octets)?;
     framed.check_lengths()?;
-    let common = framed.common();
-    check_limits(framed.kind, &common)?;
+    check_limits(framed.kind, &framed.common())?;
     let payload = payload_part(octets, framed.kind.header_count());
     match framed.kind {
-        Kind::Beacon => Ok(Packet::Beacon(read_beacon(common, octets)?, payload)),
-        Kind::Unicast => Ok(Packet::Unicast(read_unicast(common, octets)?, payload)),
-        Kind::Anycast => Ok(Packet::Anycast(read_area_header(common, octets)?, payload)),
-        Kind::Broadcast => Ok(Packet::Broadcast(read_area_header(common, octets)?, payload)),
-        Kind::SingleHop => Ok(Packet::SingleHop(read_single_hop(common, octets)?, payload)),
-        Kind::MultiHop => Ok(Packet::MultiHop(read_multi_hop(common, octets)?, payload)),
+        Kind::Beacon => Ok(Packet::Beacon(framed.beacon()?, payload)),
+        Kind::Unicast => Ok(Packet::Unicast(framed.unicast()?, payload)),
+        Kind::Anycast => Ok(Packet::Anycast(framed.area()?, payload)),
+        Kind::Broadcast => Ok(Packet::Broadcast(framed.area()?, payload)),
+        Kind::SingleHop => Ok(Packet::SingleHop(framed.single_hop()?, payload)),
+        Kind::MultiHop => Ok(Packet::MultiHop(framed.multi_hop()?, payload)),
     }
 }
 

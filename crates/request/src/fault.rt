@@ -10,7 +10,7 @@ use std::str::Utf8Error;
 
 #[derive(Clone, Copy, Debug, PartialEq, Eq)]
 pub enum LineFault {
-    // A word has no meaning.
+    // A word has no meaning, or tells of one station too many.
     NotUnderstood,
     NoMemory,
 }

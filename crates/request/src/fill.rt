@@ -1,4 +1,5 @@
-// One field set to what a text says; none, if the text says nothing or too much for the field.
+// One field set to what a text says; none, if the text says nothing or too much for the field. Functions for the parts, and
+// no methods: their types are of other crates.
 ghost use Rattle.std.specs.Prelude.{◌≡◌};
 ghost use Rattle.request.specs.Asked.{common_with, vector_with, motion_with, area_with, fields_with};
 
@@ -7,7 +8,6 @@ use crate::names::{AreaField, CommonField, Field, MotionField, VectorField};
 use crate::numbers::{flag_in, number_in};
 use fields::address::Address;
 use fields::motion::Motion;
-use fields::position::Position;
 use fields::sequence_number::SequenceNumber;
 use fields::traffic_class::TrafficClass;
 use fields::upper_protocol::UpperProtocol;

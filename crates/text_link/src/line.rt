@@ -8,7 +8,7 @@ use link::address::LinkAddress;
 // The octets of a line besides the digits of the packet: the digits of the address, the comma and the line feed.
 pub(crate) const LINE_OVERHEAD: usize = 14;
 
-// A lower-case hexadecimal digit.
+// A lower-case hexadecimal digit. By hand: char::from_digit answers an Option of a char, to be unwrapped and cast.
 fn digit_of(n: u8) -> u8
     requires { n < 16 }
     ensures { result ≡ digit n }

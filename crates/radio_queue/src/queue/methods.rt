@@ -1,6 +1,7 @@
 // Making a queue, and what the radio does with it.
-ghost use Rattle.std.specs.Prelude.{◌≡◌, ◌≤◌, [], length, drop, slice_get, IfSome, IfOk};
+ghost use Rattle.std.specs.Prelude.{All, ◌≡◌, ◌≤◌, [], length, drop, slice_get, IfSome, IfOk};
 ghost use Rattle.std.specs.Option.{option_map};
+ghost use Rattle.radio_queue.specs.Shorts.{IsShort};
 ghost use Rattle.radio_queue.specs.Queues.{viewed, head_of, first_over};
 
 use crate::frame::{FrameView, Head};
@@ -21,6 +22,7 @@ impl RadioQueue {
     pub fn len(&self) -> usize
         ensures value { result ≡ length self.now }
         ensures few { result ≤ 8 }
+        ensures short { All IsShort self.now }
     {
         self.frames.len()
     }
@@ -37,7 +39,7 @@ impl RadioQueue {
         })
     }
 
-    // Takes that frame off, and writes its packet to the front of `out`.
+    // Takes that frame off, and writes its packet to the front of `out`: an array of the caller's, the rest of which stays.
     pub fn take_first(&mut self, out: &mut [u8; OCTETS]) -> Option<Head>
         ensures value { result ≡ option_map head_of (slice_get self.old 0) }
         ensures frames { self.new ≡ drop 1 self.old }

@@ -15,6 +15,7 @@ pub enum LineFault {
     NoMemory,
 }
 
+// One impl for each fault that `?` passes up.
 impl From<AllocError> for LineFault {
     ghost from_gives = { λ _ r. r ≡ NoMemory };
 

@@ -60,6 +60,7 @@ impl Request {
     }
 }
 
+// The two differ in their last field, and stay two: each calls it by its own name.
 impl Fields {
     fn unicast_header(&self) -> UnicastHeader
         ensures common { result.common ≡ self.now.common }

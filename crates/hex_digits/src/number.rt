@@ -20,7 +20,7 @@ pub fn u32_of(text: &[u8]) -> Option<u32>
     number(text, 8).map(|n| n as u32)
 }
 
-// The number of 1 to `most` digits.
+// The number of 1 to `most` digits. The loop goes over the digits and counts nothing.
 fn number(text: &[u8], most: usize) -> Option<u64>
     requires { most ≤ 16 }
     ensures value { result ≡ number_of most text.now }

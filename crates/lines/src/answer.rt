@@ -10,7 +10,8 @@ pub trait Answer<R> {
 }
 
 // Answers each line that is not passed over, up to the end of the input.
-// By read_until and not by split: a carriage return is passed over only before a line feed.
+// By read_until and not by split: a carriage return is passed over only before a line feed. The loop counts the lines,
+// since each is handed on with its number.
 pub fn answer_all<R: Input + AllocGlobal, A: Answer<R>>(rt: &R, program: &A) -> io::Result<()> {
     let mut input = BufReader::new(rt.alloc(), rt.reader())?;
     let mut line = Vec::new(rt.alloc());

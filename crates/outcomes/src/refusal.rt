@@ -15,6 +15,7 @@ pub struct Refusal {
 }
 
 impl Refusal {
+    // A method and no From: a refusal says more than its number.
     pub fn number(&self) -> u8
         ensures { result ≡ reason_number self.now.reason }
     {

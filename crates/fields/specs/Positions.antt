@@ -1,7 +1,9 @@
 -- Positions, and which of them are on the earth. Assumes nothing.
-use Rattle.std.specs.Prelude.{ℕ, ◌+◌, Bool, ◌&&◌, List, ◌++◌, Ok, Result, nat_le, unsigned_abs}
+use Rattle.std.specs.Prelude.{◌≡◌, ℕ, ◌+◌, Bool, ◌&&◌, List, ◌++◌, length, Ok, Result, nat_le, unsigned_abs, refl}
+use Rattle.std.proofs.Common.{length-append}
 use Rattle.octets.specs.Faults.{and_then, coordinate_at}
 use Rattle.octets.specs.Wire.{octets_of, unsigned}
+use Rattle.octets.specs.Widths.{length-octets_of}
 use Rattle.octets.specs.declared.fault.OctetFault.{OctetFault}
 use Rattle.fields.specs.declared.position.Position.{Position}
 
@@ -19,3 +21,7 @@ position_at at octets =
 -- the eight octets of a position
 abbrev pub position_octets : Position → List ℕ
 position_octets p = octets_of 4 (unsigned 31 p.latitude) ++ octets_of 4 (unsigned 31 p.longitude)
+
+-- they are eight
+pub length-position_octets : (p : Position) → length (position_octets p) ≡ 8
+length-position_octets p = simp (length-append, length-octets_of) refl

@@ -1,5 +1,5 @@
 // The GeoNetworking address of a station.
-#[derive(Clone, Copy, Debug, PartialEq, Eq)]
+#[derive(Clone, Copy, Debug, Default, PartialEq, Eq)]
 pub struct Address {
     pub value: u64,
 }

@@ -3,7 +3,8 @@ ghost use Rattle.std.specs.Prelude.{◌≡◌};
 ghost use Rattle.fields.specs.Motions.{accurate_in, speed_in, motion_from};
 
 // Sixteen bits, one for the flag and fifteen for the speed, so that neither has a value beyond its own.
-#[derive(Clone, Copy, Debug, PartialEq, Eq)]
+// Not a flag beside a speed that keeps its range: then `read(octets)?` does not prove in a function that has a `&mut` too.
+#[derive(Clone, Copy, Debug, Default, PartialEq, Eq)]
 pub struct Motion {
     pub bits: u16,
 }

@@ -1,19 +1,17 @@
 // A position: latitude and longitude in tenths of a microdegree.
-ghost use Rattle.std.specs.Prelude.{◌≡◌};
-ghost use Rattle.fields.specs.Positions.{on_earth, position_at, position_octets};
-ghost use Rattle.octets.specs.Faults.{room_at};
-ghost use Rattle.octets.specs.Wire.{put_at};
+ghost use Rattle.std.specs.Prelude.{⊤, ◌≡◌};
+ghost use Rattle.fields.specs.Positions.{on_earth, position_at, position_octets, length-position_octets};
 
 use octets::fault::OctetFault;
-use octets::read::{check_room, coordinate_at};
-use octets::write::put_i32;
+use octets::read::{FromOctets, coordinate_at};
+use octets::write::ToOctets;
 
 // The sizes of the greatest latitude and the greatest longitude, either way.
 pub const LATITUDE_LIMIT: u32 = 900_000_000;
 
 pub const LONGITUDE_LIMIT: u32 = 1_800_000_000;
 
-#[derive(Clone, Copy, Debug, PartialEq, Eq)]
+#[derive(Clone, Copy, Debug, Default, PartialEq, Eq)]
 pub struct Position {
     pub latitude: i32,
     pub longitude: i32,
@@ -27,11 +25,13 @@ impl Position {
         self.latitude.unsigned_abs() <= LATITUDE_LIMIT
             && self.longitude.unsigned_abs() <= LONGITUDE_LIMIT
     }
+}
+
+impl FromOctets for Position {
+    ghost reading = { position_at };
 
     // The latitude at `at` and the longitude behind it, each within its range.
-    pub fn read(octets: &[u8], at: usize) -> Result<Position, OctetFault>
-        ensures { result ≡ position_at at octets.now }
-    {
+    fn read(octets: &[u8], at: usize) -> Result<Position, OctetFault> {
         let latitude = coordinate_at(octets, at, LATITUDE_LIMIT)?;
         let longitude = coordinate_at(octets, at + 4, LONGITUDE_LIMIT)?;
         Ok(Position {
@@ -39,15 +39,23 @@ impl Position {
             longitude,
         })
     }
+}
 
-    // Writes both as eight octets from `at` on, whatever they are.
-    pub fn write(self, octets: &mut [u8], at: usize) -> Result<(), OctetFault>
-        ensures value { result ≡ room_at 8 at octets.old }
-        ensures after { octets.new ≡ put_at 8 at (position_octets self) octets.old }
-    {
-        check_room(octets, at, 8)?;
-        put_i32(octets, at, self.latitude)?;
-        put_i32(octets, at + 4, self.longitude)?;
-        Ok(())
+impl ToOctets for Position {
+    ghost WIDTH = { 8 };
+
+    ghost written = { position_octets };
+
+    ghost Fits = { λ _. ⊤ };
+
+    ghost full = { length-position_octets };
+
+    fn width() -> usize {
+        8
+    }
+
+    // The latitude and behind it the longitude, whatever they are.
+    fn write(&self, octets: &mut [u8], at: usize) -> Result<(), OctetFault> {
+        (self.latitude, self.longitude).write(octets, at)
     }
 }

@@ -1,7 +1,7 @@
 // The traffic class octet.
 ghost use Rattle.std.specs.Prelude.{◌≡◌, nat_le};
 
-#[derive(Clone, Copy, Debug, PartialEq, Eq)]
+#[derive(Clone, Copy, Debug, Default, PartialEq, Eq)]
 pub struct TrafficClass {
     pub octet: u8,
 }

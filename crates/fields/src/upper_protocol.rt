@@ -1,10 +1,11 @@
 // What the payload is: a number of four bits. The router does not look at it.
-ghost use Rattle.std.specs.Prelude.{◌≡◌, ◌/◌, ◌<◌, if◌then◌else◌, Some, None, nat_lt};
-ghost use Rattle.fields.specs.UpperProtocols.{upper_of, upper_number};
+ghost use Rattle.std.specs.Prelude.{◌≡◌, ◌/◌, ◌<◌};
+ghost use Rattle.fields.specs.UpperProtocols.{upper_of, upper_from, upper_number};
 
 // The sixteen values that four bits have.
-#[derive(Clone, Copy, Debug, PartialEq, Eq)]
+#[derive(Clone, Copy, Debug, Default, PartialEq, Eq)]
 pub enum UpperProtocol {
+    #[default]
     Any,
     BtpA,
     BtpB,
@@ -23,25 +24,43 @@ pub enum UpperProtocol {
     Reserved15,
 }
 
-impl UpperProtocol {
-    // The upper protocol of a number from 0 to 15; none for any other.
-    pub fn new(number: u8) -> Option<UpperProtocol>
-        ensures { result ≡ (if nat_lt 15 number then None else Some (upper_of number)) }
-    {
-        if number > 15 {
-            return None;
-        }
-        Some(UpperProtocol::of_four_bits(number))
-    }
+// A number that is no upper protocol, since it has more than four bits.
+#[derive(Clone, Copy, Debug, PartialEq, Eq)]
+pub struct NotFourBits {
+    pub number: u8,
+}
 
-    // The upper protocol in the high four bits of an octet.
+impl TryFrom<u8> for UpperProtocol {
+    type Error = NotFourBits;
+
+    ghost try_from_gives = { λ number answer. answer ≡ upper_from number };
+
+    // The upper protocol of a number from 0 to 15.
+    fn try_from(number: u8) -> Result<UpperProtocol, NotFourBits> {
+        if number > 15 {
+            return Err(NotFourBits { number });
+        }
+        Ok(UpperProtocol::of_four_bits(number))
+    }
+}
+
+impl From<UpperProtocol> for u8 {
+    ghost from_gives = { λ upper number. (number ≡ upper_number upper) × (number < 16) };
+
+    fn from(upper: UpperProtocol) -> u8 {
+        upper as u8
+    }
+}
+
+impl UpperProtocol {
+    // The upper protocol in the high four bits of an octet. No From: an octet says more than that.
     pub fn from_octet(octet: u8) -> UpperProtocol
         ensures { result ≡ upper_of (octet / 16) }
     {
         UpperProtocol::of_four_bits(octet / 16)
     }
 
-    // The upper protocol of a number below 16; a greater one counts as 15.
+    // The upper protocol of a number below 16; a greater one counts as 15. No From: that is only the step of the others.
     fn of_four_bits(number: u8) -> UpperProtocol
         ensures { result ≡ upper_of number }
     {
@@ -62,30 +81,6 @@ impl UpperProtocol {
             13 => UpperProtocol::Reserved13,
             14 => UpperProtocol::Reserved14,
             _ => UpperProtocol::Reserved15,
-        }
-    }
-
-    pub fn number(self) -> u8
-        ensures value { result ≡ upper_number self }
-        ensures bound { result < 16 }
-    {
-        match self {
-            UpperProtocol::Any => 0,
-            UpperProtocol::BtpA => 1,
-            UpperProtocol::BtpB => 2,
-            UpperProtocol::Ipv6 => 3,
-            UpperProtocol::Reserved4 => 4,
-            UpperProtocol::Reserved5 => 5,
-            UpperProtocol::Reserved6 => 6,
-            UpperProtocol::Reserved7 => 7,
-            UpperProtocol::Reserved8 => 8,
-            UpperProtocol::Reserved9 => 9,
-            UpperProtocol::Reserved10 => 10,
-            UpperProtocol::Reserved11 => 11,
-            UpperProtocol::Reserved12 => 12,
-            UpperProtocol::Reserved13 => 13,
-            UpperProtocol::Reserved14 => 14,
-            UpperProtocol::Reserved15 => 15,
         }
     }
 }

@@ -1,6 +1,6 @@
 // A link over another one that has space every other time.
 ghost use Rattle.std.specs.Prelude.{◌≡◌, not, ◌&&◌, length};
-ghost use Rattle.link.specs.Frames.{Frame, frame, sent, joined};
+ghost use Rattle.link.specs.Frames.{frame, sent, joined};
 
 use link::Link;
 use link::address::LinkAddress;
@@ -29,7 +29,7 @@ impl<L: Link> Link for Alternating<L> {
     {
         self.open = !self.open;
         if self.open {
-            return Err(NoSpace {});
+            return Err(NoSpace);
         }
         self.below.send(to, packet)
     }

@@ -6,7 +6,7 @@ use policy::Policy;
 use policy::choice::Choice;
 
 #[derive(Clone, Copy)]
-pub struct Patient {}
+pub struct Patient;
 
 impl Policy for Patient {
     ghost choice = { λ _ _ _ _. Wait 7 };

@@ -4,17 +4,16 @@ use crate::patient::Patient;
 use crate::surveyed::Surveyed;
 use fields::address::Address;
 use fields::position::Position;
+use forwarding::carried::Carried;
 use forwarding::course::Course;
-use forwarding::step::forward;
+use forwarding::step::Forwarder;
 use ground::Ground;
 use ground::circle::is_inside;
-use link::address::LinkAddress;
 use location_table::entry::Entry;
 use location_table::numbers::RecentNumbers;
 use location_table::table::LocationTable;
 use policy::greedy::Greedy;
 use radio_queue::queue::RadioQueue;
-use std::process::Abort;
 use std::test::Fail;
 use times::timestamp::Timestamp;
 use vectors::short::ShortPositionVector;
@@ -48,14 +47,11 @@ fn station(address: u64, latitude: i32, neighbour: bool) -> Entry {
 }
 
 // A station at place 1, a nearer one at place 3 that is no neighbour, and one more at place 1.
-fn table(rt: &(impl Abort + AllocGlobal)) -> Result<LocationTable, Fail> {
+fn table(rt: &HostRuntime) -> Result<LocationTable, Fail> {
     let mut table = LocationTable::new(rt.alloc())?;
-    let entered = table.enter(station(0x3c00_0000_0000_0001, 1, true)).is_ok()
-        && table
-            .enter(station(0x3c00_0000_0000_0002, 3, false))
-            .is_ok()
-        && table.enter(station(0x3c00_0000_0000_0003, 1, true)).is_ok();
-    assert!(rt; entered);
+    table.enter(station(0x3c00_0000_0000_0001, 1, true))?;
+    table.enter(station(0x3c00_0000_0000_0002, 3, false))?;
+    table.enter(station(0x3c00_0000_0000_0003, 1, true))?;
     Ok(table)
 }
 
@@ -70,6 +66,14 @@ const COURSE: Course = Course {
         longitude: 0,
     },
 };
+
+fn carried(packet: &[u8]) -> Carried<'_> {
+    Carried {
+        course: COURSE,
+        held: false,
+        packet,
+    }
+}
 
 #[test]
 fn the_way_back_is_longer(rt: HostRuntime) {
@@ -86,60 +90,34 @@ fn every_other_frame_goes_to_the_nearest(rt: HostRuntime) -> Result<(), Fail> {
         below: RadioQueue::new(rt.alloc())?,
         open: true,
     };
-    let first = forward(
-        &table,
-        COURSE,
-        false,
-        b"\x2a",
-        &HILLS,
-        &Greedy {},
-        &mut link,
-    );
-    let second = forward(
-        &table,
-        COURSE,
-        false,
-        b"\x2b",
-        &HILLS,
-        &Greedy {},
-        &mut link,
-    );
-    let third = forward(
-        &table,
-        COURSE,
-        false,
-        b"\x2c",
-        &HILLS,
-        &Greedy {},
-        &mut link,
-    );
+    let forwarder = Forwarder {
+        table: &table,
+        ground: &HILLS,
+        policy: &Greedy,
+    };
+    let first = forwarder.forward(&carried(b"\x2a"), &mut link);
+    let second = forwarder.forward(&carried(b"\x2b"), &mut link);
+    let third = forwarder.forward(&carried(b"\x2c"), &mut link);
     assert_eq!(rt; first.number(), 2);
     assert_eq!(rt; second.number(), 7);
     assert_eq!(rt; third.number(), 2);
     assert_eq!(rt; link.below.len(), 2);
-    match link.below.first() {
-        Some(frame) => {
-            assert_eq!(rt; frame.to.octets[5], 1);
-            assert_eq!(rt; frame.packet, b"\x2a".as_slice());
-            Ok(())
-        }
-        None => Err(Fail::new("no frame waits")),
-    }
+    let frame = link.below.first().ok_or("no frame waits")?;
+    assert_eq!(rt; frame.to.octets[5], 1);
+    assert_eq!(rt; frame.packet, b"\x2a".as_slice());
+    Ok(())
 }
 
 #[test]
 fn the_patient_one_waits(rt: HostRuntime) -> Result<(), Fail> {
     let table = table(&rt)?;
     let mut link = RadioQueue::new(rt.alloc())?;
-    let verdict = forward(
-        &table,
-        COURSE,
-        false,
-        b"\x2a",
-        &HILLS,
-        &Patient {},
-        &mut link,
-    );
+    let forwarder = Forwarder {
+        table: &table,
+        ground: &HILLS,
+        policy: &Patient,
+    };
+    let verdict = forwarder.forward(&carried(b"\x2a"), &mut link);
     assert_eq!(rt; verdict.number(), 3);
     assert_eq!(rt; link.len(), 0);
     Ok(())

@@ -4,7 +4,7 @@ ghost use Rattle.forwarding.specs.Verdicts.{number};
 
 use link::address::LinkAddress;
 
-#[derive(Clone, Copy)]
+#[derive(Clone, Copy, Debug, PartialEq, Eq)]
 pub enum Verdict {
     // It went to everybody.
     Broadcast,
@@ -21,6 +21,7 @@ pub enum Verdict {
 }
 
 impl Verdict {
+    // A method and no From: a verdict says more than its number.
     pub fn number(self) -> u8
         ensures { result ≡ number self }
     {

@@ -1,5 +1,5 @@
 -- The distances of a situation, by a ground. Assumes nothing.
-use Rattle.std.specs.Prelude.{◌≡◌, ℕ, length, take, vec_items}
+use Rattle.std.specs.Prelude.{◌≡◌, ℕ}
 use Rattle.fields.specs.declared.position.Position.{Position}
 use Rattle.forwarding.specs.Questions.{sender_distance}
 use Rattle.ground.specs.Spans.{inside}
@@ -12,6 +12,5 @@ use Rattle.gn_forward.specs.declared.distances.Distances.{Distances}
 pub record Measured (span : Position → Position → ℕ) (s : Situation) (d : Distances) : Type 0 where
   pub ours : d.ours ≡ span s.fields.course.ours s.fields.course.target
   pub sender : d.sender ≡ sender_distance span s.fields.course
-  pub count : d.count ≡ length (distances (λ p. span p s.fields.course.target) (stations_in (vec_items s.table.entries)))
-  pub near : take d.count d.near ≡ distances (λ p. span p s.fields.course.target) (stations_in (vec_items s.table.entries))
+  pub near : d.near.items ≡ distances (λ p. span p s.fields.course.target) (stations_in s.table)
   pub inside : d.inside ≡ inside (span s.fields.course.ours s.fields.course.target) s.fields.radius

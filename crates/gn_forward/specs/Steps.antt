@@ -20,16 +20,16 @@ use Rattle.gn_forward.specs.declared.verdicts.RoundVerdicts.{RoundVerdicts}
 
 -- what a policy says in a situation, by the distances of a ground
 abbrev pub advised : (ℕ → Option ℕ → List ℕ → Choice) → (Position → Position → ℕ) → Situation → Choice
-advised choice span s = advice choice span s.fields.course (stations_in (vec_items s.table.entries))
+advised choice span s = advice choice span s.fields.course (stations_in s.table)
 
 -- a step on a link that has space or has none: the verdict on what the policy says, and the frames that it names put last
 pub record Stepped (said : Choice) (s : Situation) (space : Bool) (before after : List Frame) (v : Verdict) : Type 0 where
-  pub verdict : v ≡ judged said s.fields.held (link_addresses (stations_in (vec_items s.table.entries))) space
+  pub verdict : v ≡ judged said s.fields.held (link_addresses (stations_in s.table)) space
   pub frames : after ≡ before ++ frames_of v (vec_items s.packet)
 
 -- a step on each link
 pub record SteppedOnBoth (said : Choice) (s : Situation) (before after : Links) (v : LinkVerdicts) : Type 0 where
-  pub queue : Stepped said s (radio.has_space before.queue (length (vec_items s.packet))) (radio.waiting before.queue) (radio.waiting after.queue) v.queue
+  pub queue : Stepped said s (radio.has_space before.queue (length (vec_items s.packet))) before.queue after.queue v.queue
   pub text : Stepped said s (written.has_space before.text (length (vec_items s.packet))) (written.frames_of before.text) (written.frames_of after.text) v.text
 
 -- over a ground: greedy, and then contention

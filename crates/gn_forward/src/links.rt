@@ -1,7 +1,5 @@
 // The two links of a situation.
 ghost use Rattle.std.specs.Prelude.{◌≡◌, [], IfOk};
-ghost use Rattle.radio_queue.specs.Queues.{waiting};
-ghost use Rattle.text_link.specs.TextLinks.{text_of};
 
 use radio_queue::queue::RadioQueue;
 use std::alloc::{AllocError, Global};
@@ -16,7 +14,7 @@ pub struct Links {
 impl Links {
     // Both are empty; the text link has a buffer of this size.
     pub fn new(heap: Global, room: u16) -> Result<Links, AllocError>
-        ensures { IfOk result (λ l. (waiting l.queue ≡ []) × (text_of l.text ≡ []) × (l.text.limit ≡ room)) }
+        ensures { IfOk result (λ l. (l.queue ≡ []) × (l.text.text ≡ []) × (l.text.limit ≡ room)) }
     {
         let queue = RadioQueue::new(heap)?;
         let text = TextLink::new(heap, usize::from(room))?;

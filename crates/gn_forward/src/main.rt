@@ -4,7 +4,7 @@
 
 mod distances;
 mod links;
-mod measure;
+mod on_ground;
 mod report;
 mod shown;
 mod steps;
@@ -12,7 +12,8 @@ mod verdicts;
 
 use crate::report::print_situation;
 use lines::answer::{Answer, answer_all};
-use situation::fault::SituationFault;
+use lines::line::Line;
+use request::fault::LineFault;
 use situation::line::situation_in;
 use std::io;
 use std::io::{Error, ErrorKind};
@@ -20,12 +21,13 @@ use std::io::{Error, ErrorKind};
 // The program: each line is a situation.
 struct Forward;
 
-impl Answer for Forward {
-    fn answer(&self, rt: &HostRuntime, number: u64, text: &[u8]) -> io::Result<()> {
-        match situation_in(rt.alloc(), text) {
+impl<R: Print + AllocGlobal> Answer<R> for Forward {
+    fn answer(&self, rt: &R, line: Line) -> io::Result<()> {
+        let number = line.number;
+        match situation_in(rt.alloc(), line.text) {
             Ok(situation) => print_situation(rt, number, &situation),
-            Err(SituationFault::NotUnderstood) => println!(rt; "line {number}: not a situation"),
-            Err(SituationFault::NoMemory) => Err(Error::from(ErrorKind::OutOfMemory)),
+            Err(LineFault::NotUnderstood) => println!(rt; "line {number}: not a situation"),
+            Err(LineFault::NoMemory) => Err(Error::from(ErrorKind::OutOfMemory)),
         }
     }
 }

@@ -1,13 +1,19 @@
 // Distances, verdicts and frames, in words.
-use crate::verdicts::LinkVerdicts;
+use crate::distances::Distances;
+use crate::on_ground::OnGround;
+use crate::verdicts::{GroundVerdicts, LinkVerdicts, RoundVerdicts};
 use forwarding::verdict::Verdict;
-use ground::fault::GroundFault;
+use ground::Ground;
+use ground::flat::Flat;
+use ground::scale::EastScale;
+use ground::street::Street;
 use hex_digits::encode::Hex;
+use situation::told::Situation;
 use std::fmt;
 
 // The sender's distance, if it is known.
 #[derive(Clone, Copy)]
-pub struct Sender(pub Option<u32>);
+struct Sender(pub Option<u32>);
 
 impl fmt::Display for Sender {
     fn fmt<W: fmt::Write>(&self, f: &mut fmt::Formatter<W>) -> fmt::Result {
@@ -20,7 +26,7 @@ impl fmt::Display for Sender {
 
 // The neighbours' distances.
 #[derive(Clone, Copy)]
-pub struct Neighbours<'a>(pub &'a [u32]);
+struct Neighbours<'a>(pub &'a [u32]);
 
 impl fmt::Display for Neighbours<'_> {
     fn fmt<W: fmt::Write>(&self, f: &mut fmt::Formatter<W>) -> fmt::Result {
@@ -37,7 +43,7 @@ impl fmt::Display for Neighbours<'_> {
 
 // Whether we are inside the circle.
 #[derive(Clone, Copy)]
-pub struct Side(pub bool);
+struct Side(pub bool);
 
 impl fmt::Display for Side {
     fn fmt<W: fmt::Write>(&self, f: &mut fmt::Formatter<W>) -> fmt::Result {
@@ -64,7 +70,7 @@ impl fmt::Display for ShownVerdict {
 
 // The last verdicts over one ground, with one policy, if the step was done at all.
 #[derive(Clone, Copy)]
-pub struct LastVerdicts(pub Option<LinkVerdicts>);
+struct LastVerdicts(pub Option<LinkVerdicts>);
 
 impl fmt::Display for LastVerdicts {
     fn fmt<W: fmt::Write>(&self, f: &mut fmt::Formatter<W>) -> fmt::Result {
@@ -79,17 +85,74 @@ impl fmt::Display for LastVerdicts {
     }
 }
 
-// Why no ground is made.
+// One ground, by its name: the distances, and the last verdicts over it.
 #[derive(Clone, Copy)]
-pub struct GroundRefusal(pub GroundFault);
+struct GroundLines<'a> {
+    name: &'a str,
+    distances: &'a Distances,
+    last: Option<GroundVerdicts>,
+}
 
-impl fmt::Display for GroundRefusal {
+impl fmt::Display for GroundLines<'_> {
     fn fmt<W: fmt::Write>(&self, f: &mut fmt::Formatter<W>) -> fmt::Result {
-        let number = self.0.number();
-        let reason = match self.0 {
-            GroundFault::ScaleTooLarge => "the east scale is above 1113",
+        let name = self.name;
+        let ours = self.distances.ours;
+        let sender = Sender(self.distances.sender);
+        let neighbours = Neighbours(self.distances.near.as_slice());
+        let side = Side(self.distances.inside);
+        let greedy = LastVerdicts(self.last.map(|verdicts| verdicts.greedy));
+        let contention = LastVerdicts(self.last.map(|verdicts| verdicts.contention));
+        writeln!(
+            f,
+            "  {name}: ours {ours} dm, {sender}, {neighbours}, {side}"
+        )?;
+        writeln!(f, "  {name} and greedy: {greedy}")?;
+        writeln!(f, "  {name} and contention: {contention}")
+    }
+}
+
+// How many neighbours there are, and the lines of both grounds.
+#[derive(Clone, Copy)]
+pub struct SituationLines<'a> {
+    pub line: u64,
+    pub situation: &'a Situation,
+    pub scale: EastScale,
+    pub last: Option<RoundVerdicts>,
+}
+
+impl SituationLines<'_> {
+    fn distances<G: Ground>(&self, ground: &G) -> Distances {
+        OnGround {
+            situation: self.situation,
+            ground,
+        }
+        .distances()
+    }
+}
+
+impl fmt::Display for SituationLines<'_> {
+    fn fmt<W: fmt::Write>(&self, f: &mut fmt::Formatter<W>) -> fmt::Result {
+        let line = self.line;
+        let scale = self.scale;
+        let flat = self.distances(&Flat { scale });
+        let street = self.distances(&Street { scale });
+        let neighbours = flat.near.len();
+        let stations = self.situation.table.entries().len();
+        let flat = GroundLines {
+            name: "flat",
+            distances: &flat,
+            last: self.last.map(|round| round.flat),
         };
-        write!(f, "refused, number {number} at place 0: {reason}")
+        let street = GroundLines {
+            name: "street",
+            distances: &street,
+            last: self.last.map(|round| round.street),
+        };
+        writeln!(
+            f,
+            "line {line}: {neighbours} of {stations} stations are neighbours"
+        )?;
+        write!(f, "{flat}{street}")
     }
 }
 
@@ -99,13 +162,11 @@ pub struct TextLines<'a>(pub &'a [u8]);
 
 impl fmt::Display for TextLines<'_> {
     fn fmt<W: fmt::Write>(&self, f: &mut fmt::Formatter<W>) -> fmt::Result {
-        let mut begins = true;
-        for octet in self.0 {
-            if begins {
-                f.write_str("  text link: ")?;
+        for line in self.0.split_inclusive(|octet| *octet == b'\n') {
+            f.write_str("  text link: ")?;
+            for octet in line {
+                f.write_char(char::from(*octet))?;
             }
-            f.write_char(char::from(*octet))?;
-            begins = *octet == b'\n';
         }
         Ok(())
     }

@@ -1,19 +1,12 @@
 // The forwarding step of a situation, over each ground, policy and link.
-ghost use Rattle.std.specs.Prelude.{length};
-ghost use Rattle.gn_forward.specs.Steps.{Stepped, SteppedOnBoth, Overall, advised, Round, Rounds};
+ghost use Rattle.gn_forward.specs.Steps.{Round, Rounds};
 
 use crate::links::Links;
-use crate::verdicts::{GroundVerdicts, LinkVerdicts, RoundVerdicts};
-use forwarding::step::forward;
-use forwarding::verdict::Verdict;
-use ground::Ground;
+use crate::on_ground::OnGround;
+use crate::verdicts::RoundVerdicts;
 use ground::flat::Flat;
 use ground::scale::EastScale;
 use ground::street::Street;
-use link::Link;
-use policy::Policy;
-use policy::contention::Contention;
-use policy::greedy::Greedy;
 use situation::told::Situation;
 
 // Does the step as often as the situation says, and answers the verdicts of the last time.
@@ -21,6 +14,7 @@ pub fn rounds(situation: &Situation, scale: EastScale, links: &mut Links) -> Opt
     ensures { Rounds situation.now.fields.times situation.now scale.value links.old links.new result }
 {
     let mut last = None;
+    // Not a count of places: so many times over.
     for time in 0..situation.fields.times {
         last = Some(round(situation, scale, links));
     }
@@ -31,49 +25,9 @@ pub fn rounds(situation: &Situation, scale: EastScale, links: &mut Links) -> Opt
 fn round(situation: &Situation, scale: EastScale, links: &mut Links) -> RoundVerdicts
     ensures { Round situation.now scale.value links.old links.new result }
 {
-    let flat = over_ground(situation, &Flat { scale }, links);
-    let street = over_ground(situation, &Street { scale }, links);
+    let ground = &Flat { scale };
+    let flat = OnGround { situation, ground }.steps(links);
+    let ground = &Street { scale };
+    let street = OnGround { situation, ground }.steps(links);
     RoundVerdicts { flat, street }
-}
-
-// Greedy first, and then contention.
-fn over_ground<G: Ground>(situation: &Situation, ground: &G, links: &mut Links) -> GroundVerdicts
-    ensures { Overall (G.span ground.now) situation.now links.old links.new result }
-{
-    let greedy = on_both_links(situation, ground, &Greedy {}, links);
-    let contention = on_both_links(situation, ground, &Contention {}, links);
-    GroundVerdicts { greedy, contention }
-}
-
-// The radio queue first, and then the text link.
-fn on_both_links<G: Ground, P: Policy>(
-    situation: &Situation,
-    ground: &G,
-    policy: &P,
-    links: &mut Links,
-) -> LinkVerdicts
-    ensures { SteppedOnBoth (advised (P.choice policy.now) (G.span ground.now) situation.now) situation.now links.old links.new result }
-{
-    let queue = on_link(situation, ground, policy, &mut links.queue);
-    let text = on_link(situation, ground, policy, &mut links.text);
-    LinkVerdicts { queue, text }
-}
-
-fn on_link<G: Ground, P: Policy, L: Link>(
-    situation: &Situation,
-    ground: &G,
-    policy: &P,
-    link: &mut L,
-) -> Verdict
-    ensures { Stepped (advised (P.choice policy.now) (G.span ground.now) situation.now) situation.now (L.space link.old (length situation.now.packet.items)) (L.frames link.old) (L.frames link.new) result }
-{
-    forward(
-        &situation.table,
-        situation.fields.course,
-        situation.fields.held,
-        situation.packet.as_slice(),
-        ground,
-        policy,
-        link,
-    )
 }

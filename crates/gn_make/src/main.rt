@@ -3,10 +3,10 @@
 
 use hex_digits::encode::Hex;
 use lines::answer::{Answer, answer_all};
+use lines::line::Line;
 use outcomes::refusal::Refusal;
-use packets::fault::WriteFault;
 use request::asked::Request;
-use request::fault::RequestFault;
+use request::fault::LineFault;
 use request::line::request_in;
 use request::make::write_request;
 use std::io;
@@ -15,32 +15,27 @@ use std::io::{Error, ErrorKind};
 // The program: each line is a request.
 struct Make;
 
-impl Answer for Make {
-    fn answer(&self, rt: &HostRuntime, number: u64, text: &[u8]) -> io::Result<()> {
-        match request_in(rt.alloc(), text) {
+impl<R: Print + AllocGlobal> Answer<R> for Make {
+    fn answer(&self, rt: &R, line: Line) -> io::Result<()> {
+        let number = line.number;
+        match request_in(rt.alloc(), line.text) {
             Ok(request) => print_packet(rt, number, &request),
-            Err(RequestFault::NotUnderstood) => println!(rt; "line {number}: not a packet"),
-            Err(RequestFault::NoMemory) => Err(Error::from(ErrorKind::OutOfMemory)),
+            Err(LineFault::NotUnderstood) => println!(rt; "line {number}: not a packet"),
+            Err(LineFault::NoMemory) => Err(Error::from(ErrorKind::OutOfMemory)),
         }
     }
 }
 
-// Writes the octets of the packet that was asked for, or why it is not written.
-fn print_packet(rt: &HostRuntime, number: u64, request: &Request) -> io::Result<()> {
+// Writes the octets of the packet that was asked for, or why it is not written. The writer fills a fixed buffer.
+fn print_packet(rt: &impl Print, number: u64, request: &Request) -> io::Result<()> {
     let mut buffer = [0; 1458];
     match write_request(request, &mut buffer) {
-        Ok(count) => print_octets(rt, &buffer[0..count]),
-        Err(fault) => print_refusal(rt, number, &fault),
+        Ok(count) => rt.println(Hex(&buffer[0..count])),
+        Err(fault) => {
+            let refusal = Refusal::from(fault);
+            println!(rt; "line {number}: {refusal}")
+        }
     }
-}
-
-fn print_octets(rt: &HostRuntime, octets: &[u8]) -> io::Result<()> {
-    rt.println(Hex(octets))
-}
-
-fn print_refusal(rt: &HostRuntime, number: u64, fault: &WriteFault) -> io::Result<()> {
-    let refusal = Refusal::of_writer(fault);
-    println!(rt; "line {number}: {refusal}")
 }
 
 fn main(rt: HostRuntime) -> io::Result<()> {

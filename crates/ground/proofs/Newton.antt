@@ -1,6 +1,5 @@
 -- Newton's steps towards a root. Assumes nothing.
 use Rattle.std.proofs.Common.{◌≡◌, ℕ, ◌+◌, ◌-◌, ◌*◌, ◌/◌, ◌^◌, ◌<◌, ◌≤◌, sym, subst, ⊎_elim, mul_comm, pow-suc, add-one, arith}
-use native.Mathlib.Nat.{pow-le-pow_right}
 use Rattle.std.proofs.lemmas.Nat.{mul-le, div-add-mod', mod_below}
 use Rattle.std.proofs.lemmas.Bool.{cases_lt}
 use Rattle.ground.specs.Roots.{root, Least}
@@ -35,9 +34,6 @@ module _ (n x : ℕ) (some : 0 < x) where
   pub step-stops : x ≤ (x + n / x) / 2 → x * x ≤ n
   step-stops k = omega (arith, div-add-mod' n x, mul-le x x (n / x) x (omega arith) (omega arith))
 
-  pub quotient-most : n / x ≤ n
-  quotient-most = omega (arith, div-add-mod' n x, mul-le (n / x) 1 (n / x) x (omega arith) some)
-
   -- above the root, the quotient is not
   quotient-below : root n ≤ x → n / x ≤ root n
   quotient-below k =
@@ -58,9 +54,6 @@ Excess n x i = (x - root n) * 2 ^ i < 2 ^ 30
 doubled : (a b p q : ℕ) → 2 * b ≤ a → a * p < q → b * (p * 2) < q
 doubled a b p q h k = let e : b * (p * 2) ≡ 2 * b * p = grind arith in omega (arith, mul-le (2 * b) p a p h (omega arith))
 
-pub excess_first : (n x : ℕ) → x < 2 ^ 30 → Excess n x 0
-excess_first n x h = omega arith
-
 pub excess_more : (n x i : ℕ) → 0 < x → (x + n / x) / 2 < x → Excess n x i → Excess n ((x + n / x) / 2) (i + 1)
 excess_more n x i some less h =
     let power : 2 ^ (i + 1) ≡ 2 ^ i * 2 = rw (add-one, pow-suc) in
@@ -68,13 +61,6 @@ excess_more n x i some less h =
     (λ (l : x < root n). let none : (x + n / x) / 2 - root n ≡ 0 = omega arith in rw none (omega arith))
     (λ l. rw power (doubled (x - root n) ((x + n / x) / 2 - root n) (2 ^ i) (2 ^ 30) (step-halves n x some l) h))
     (cases_lt x (root n))
-
-pub excess_none : (n x i : ℕ) → 30 ≤ i → Excess n x i → x ≤ root n
-excess_none n x i l h =
-    ⊎_elim
-    (λ m. absurd (omega (arith, pow-le-pow_right {n = 2} (omega arith) l, mul-le 1 (2 ^ i) (x - root n) (2 ^ i) (omega arith) (omega arith))))
-    (λ m. m)
-    (cases_lt (root n) x)
 
 -- a number whose square is not above n is not above the root
 pub not_above : (n x : ℕ) → x * x ≤ n → x ≤ root n
@@ -90,10 +76,3 @@ near_least n x above short = least_next n x short (omega arith)
 
 pub near_is : (n x : ℕ) → x ≤ root n → n ≤ x * x → Least n x
 near_is n x most enough = let e : x ≡ root n = omega (arith, (root_least n).below x enough) in subst (Least n) (sym e) (root_least n)
-
--- two sides: their squares, and their sum as a start
-pub squares_most : (a b m : ℕ) → a ≤ m → b ≤ m → a * a + b * b ≤ 2 * (m * m)
-squares_most a b m h k = omega (arith, mul-le a a m m h h, mul-le b b m m k k)
-
-pub sides_above : (a b : ℕ) → a * a + b * b < (a + b + 1) * (a + b + 1)
-sides_above a b = let e : (a + b + 1) * (a + b + 1) ≡ a * a + b * b + 2 * (a * b) + 2 * (a + b) + 1 = grind arith in omega arith

@@ -7,7 +7,7 @@ ghost use Rattle.ground.specs.Bounds.{straight-most};
 use crate::Ground;
 use crate::root::hypotenuse;
 use crate::scale::EastScale;
-use crate::sides::{east_between, north_between};
+use crate::sides::Side;
 use fields::position::Position;
 
 #[derive(Clone, Copy)]
@@ -24,8 +24,8 @@ impl Ground for Flat {
         ensures value { result ≡ straight self.now.scale.value from to }
         ensures least { Least (north from to * north from to + east self.now.scale.value from to * east self.now.scale.value from to) result }
     {
-        let north = north_between(from, to);
-        let east = east_between(self.scale, from, to);
+        let north = Side::north(from, to);
+        let east = Side::east(self.scale, from, to);
         hypotenuse(north, east) as u32
     }
 }

@@ -18,7 +18,8 @@ ghost use Rattle.ground.specs.Spans.{Within};
 use fields::position::Position;
 
 pub trait Ground {
-    // The distance from the first position to the second. Nothing says that the way back is as far.
+    // The distance from the first position to the second. Nothing says that the way back is as far. The two are no struct:
+    // nobody keeps such a pair.
     ghost span: { Self → Position → Position → ℕ };
 
     fn distance(&self, from: Position, to: Position) -> u32

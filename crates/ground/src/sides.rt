@@ -1,31 +1,37 @@
-// How far north and how far east it is from one position to another, in decimetres.
+// The two sides of a way: how far north it is from one position to another, and how far east.
 ghost use Rattle.std.specs.Prelude.{◌≡◌, ◌≤◌, ◌-ℤ◌, unsigned_abs};
 ghost use Rattle.ground.specs.Spans.{north, east, scaled};
 
-use crate::scale::EastScale;
-use crate::scale::checked::EQUATOR;
+use crate::scale::{EQUATOR, EastScale};
 use fields::position::Position;
 
-// The size of a difference by a scale, the fraction dropped.
-fn scaled_size(from: i32, to: i32, scale: u16) -> u64
-    requires { scale ≤ 1113 }
-    ensures value { result ≡ scaled scale (unsigned_abs (from -ℤ to)) }
-    ensures bound { result ≤ 478029859 }
-{
-    let size = (i64::from(from) - i64::from(to)).unsigned_abs();
-    size * u64::from(scale) / 10_000
+// No side is longer than the largest difference of two 32-bit coordinates, by the equator's scale.
+#[derive(Clone, Copy)]
+pub(crate) struct Side {
+    pub decimetres: u64,
+    ghost most: { decimetres ≤ 478029859 },
 }
 
-pub(crate) fn north_between(from: Position, to: Position) -> u64
-    ensures value { result ≡ north from to }
-    ensures bound { result ≤ 478029859 }
-{
-    scaled_size(from.latitude, to.latitude, EQUATOR)
-}
+impl Side {
+    // The size of a difference by a scale, the fraction dropped.
+    fn scaled(scale: EastScale, from: i32, to: i32) -> Side
+        ensures { result.decimetres ≡ scaled scale.value (unsigned_abs (from -ℤ to)) }
+    {
+        let size = (i64::from(from) - i64::from(to)).unsigned_abs();
+        Side {
+            decimetres: size * u64::from(scale.value()) / 10_000,
+        }
+    }
 
-pub(crate) fn east_between(scale: EastScale, from: Position, to: Position) -> u64
-    ensures value { result ≡ east scale.value from to }
-    ensures bound { result ≤ 478029859 }
-{
-    scaled_size(from.longitude, to.longitude, scale.value())
+    pub fn north(from: Position, to: Position) -> Side
+        ensures { result.decimetres ≡ north from to }
+    {
+        Side::scaled(EQUATOR, from.latitude, to.latitude)
+    }
+
+    pub fn east(scale: EastScale, from: Position, to: Position) -> Side
+        ensures { result.decimetres ≡ east scale.value from to }
+    {
+        Side::scaled(scale, from.longitude, to.longitude)
+    }
 }

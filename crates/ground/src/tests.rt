@@ -4,6 +4,7 @@ use crate::circle::is_inside;
 use crate::flat::Flat;
 use crate::scale::EastScale;
 use fields::position::Position;
+use octets::fault::Fault;
 use std::test::Fail;
 
 fn at(latitude: i32, longitude: i32) -> Position {
@@ -14,10 +15,7 @@ fn at(latitude: i32, longitude: i32) -> Position {
 }
 
 fn scale(value: u16) -> Result<EastScale, Fail> {
-    match EastScale::new(value) {
-        Ok(scale) => Ok(scale),
-        Err(_) => Err(Fail::new("no scale")),
-    }
+    EastScale::try_from(value).map_err(|_| Fail::new("no scale"))
 }
 
 #[test]
@@ -34,7 +32,7 @@ fn a_way_north_ends_on_the_edge_of_a_circle(rt: HostRuntime) -> Result<(), Fail>
 
 #[test]
 fn a_scale_above_the_equators_is_none(rt: HostRuntime) -> Result<(), Fail> {
-    match EastScale::new(1_114) {
+    match EastScale::try_from(1_114) {
         Ok(_) => Err(Fail::new("1,114 is a scale")),
         Err(fault) => {
             assert_eq!(rt; fault.number(), 14);

@@ -3,4 +3,7 @@
 
 pub mod decode;
 pub mod encode;
+pub mod fault;
 pub mod number;
+#[cfg(test)]
+mod tests;

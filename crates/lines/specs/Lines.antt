@@ -1,5 +1,6 @@
 -- What a line says, and which lines say nothing. Assumes nothing.
-use Rattle.std.specs.Prelude.{ℕ, ◌-◌, Bool, true, cond, ◌&&◌, ◌||◌, List, [], ◌∷◌, length, take, ◌==◌, nat_le, slice_index}
+use Rattle.std.specs.Prelude.{ℕ, ◌-◌, Bool, cond, ◌&&◌, ◌||◌, List, length, take, ◌==◌, nat_le, slice_index}
+use Rattle.std.specs.List.{list_all}
 use Rattle.hex_digits.specs.Hex.{blank}
 
 -- whether a line ends with an octet
@@ -15,9 +16,8 @@ abbrev pub content_of : List ℕ → List ℕ
 content_of line = cond (ends_with 10 line) (without_end 13 (without_end 10 line)) line
 
 -- nothing but spaces and tabs
-unfoldable pub all_blank : List ℕ → Bool
-all_blank [] = true
-all_blank (b ∷ text) = blank b && all_blank text
+abbrev pub all_blank : List ℕ → Bool
+all_blank = list_all blank
 
 -- a comment begins with `#` in its first place
 abbrev pub comment : List ℕ → Bool

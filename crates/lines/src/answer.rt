@@ -1,16 +1,19 @@
-// A program that answers the lines of standard input, one after another.
-use crate::line::{content, is_passed_over};
+// A program that answers the lines of its input, one after another.
+use crate::line::{Line, content, is_passed_over};
 use std::io;
 use std::io::{BufRead, BufReader};
 
-pub trait Answer {
-    // Writes the answer to one line, given its number from 1 and its text.
-    fn answer(&self, rt: &HostRuntime, number: u64, text: &[u8]) -> io::Result<()>;
+// A trait and no closure: of a closure it would have to be asked that it may be called.
+pub trait Answer<R> {
+    // Writes the answer to one line.
+    fn answer(&self, rt: &R, line: Line) -> io::Result<()>;
 }
 
-// Answers each line that is not passed over, up to the end of standard input.
-pub fn answer_all<A: Answer>(rt: &HostRuntime, program: &A) -> io::Result<()> {
-    let mut input = BufReader::new(rt.alloc(), rt.stdin())?;
+// Answers each line that is not passed over, up to the end of the input.
+// By read_until and not by split: a carriage return is passed over only before a line feed. The loop counts the lines,
+// since each is handed on with its number.
+pub fn answer_all<R: Input + AllocGlobal, A: Answer<R>>(rt: &R, program: &A) -> io::Result<()> {
+    let mut input = BufReader::new(rt.alloc(), rt.reader())?;
     let mut line = Vec::new(rt.alloc());
     for number in 1..u64::MAX {
         line.clear();
@@ -19,7 +22,7 @@ pub fn answer_all<A: Answer>(rt: &HostRuntime, program: &A) -> io::Result<()> {
         }
         let text = content(line.as_slice());
         if !is_passed_over(text) {
-            program.answer(rt, number, text)?;
+            program.answer(rt, Line { number, text })?;
         }
     }
     Ok(())

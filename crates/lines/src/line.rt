@@ -1,17 +1,24 @@
 // One line: what it says, and whether it says anything.
 ghost use Rattle.std.specs.Prelude.{◌≡◌};
-ghost use Rattle.lines.specs.Lines.{ends_with, without_end, content_of, all_blank, comment, passed_over};
+ghost use Rattle.lines.specs.Lines.{all_blank, content_of, passed_over};
 
 use hex_digits::decode::is_blank;
+
+// A line that is to be answered.
+#[derive(Clone, Copy)]
+pub struct Line<'a> {
+    // From 1 on.
+    pub number: u64,
+    pub text: &'a [u8],
+}
 
 // The line without the line feed at its end, and without one carriage return before that.
 pub fn content(line: &[u8]) -> &[u8]
     ensures { result.now ≡ content_of line.now }
 {
-    if ends_with(line, b'\n') {
-        without_end(without_end(line, b'\n'), b'\r')
-    } else {
-        line
+    match line.strip_suffix(b"\n") {
+        Some(text) => text.strip_suffix(b"\r").unwrap_or(text),
+        None => line,
     }
 }
 
@@ -19,38 +26,11 @@ pub fn content(line: &[u8]) -> &[u8]
 pub fn is_passed_over(text: &[u8]) -> bool
     ensures { result ≡ passed_over text.now }
 {
-    is_comment(text) || is_all_blank(text)
-}
-
-fn is_comment(text: &[u8]) -> bool
-    ensures { result ≡ comment text.now }
-{
-    !text.is_empty() && text[0] == b'#'
+    text.starts_with(b"#") || is_all_blank(text)
 }
 
 fn is_all_blank(text: &[u8]) -> bool
     ensures { result ≡ all_blank text.now }
 {
-    for b in text {
-        if !is_blank(*b) {
-            return false;
-        }
-    }
-    true
-}
-
-fn ends_with(line: &[u8], octet: u8) -> bool
-    ensures { result ≡ ends_with octet line.now }
-{
-    !line.is_empty() && line[line.len() - 1] == octet
-}
-
-fn without_end(line: &[u8], octet: u8) -> &[u8]
-    ensures { result.now ≡ without_end octet line.now }
-{
-    if ends_with(line, octet) {
-        &line[0..line.len() - 1]
-    } else {
-        line
-    }
+    text.iter().all(|b| is_blank(*b))
 }

@@ -12,16 +12,15 @@ pub struct LinkAddress {
 // Everybody's address.
 pub const BROADCAST: LinkAddress = LinkAddress { octets: [255; 6] };
 
-impl LinkAddress {
-    // The last six octets of a station's address.
-    pub fn of(address: Address) -> LinkAddress
-        ensures { result ≡ link_address address }
-    {
-        let octets = address.value.to_be_bytes();
+// The last six octets of a station's address.
+impl From<Address> for LinkAddress {
+    ghost from_gives = { λ address link. link ≡ link_address address };
+
+    #[tactic(auto, using(crate::proofs::Sixes::last_six))]
+    fn from(address: Address) -> LinkAddress {
+        let [_, _, a, b, c, d, e, f] = address.value.to_be_bytes();
         LinkAddress {
-            octets: [
-                octets[2], octets[3], octets[4], octets[5], octets[6], octets[7],
-            ],
+            octets: [a, b, c, d, e, f],
         }
     }
 }

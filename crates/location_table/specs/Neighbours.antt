@@ -1,5 +1,5 @@
 -- The neighbours of a table, in its order. Assumes nothing.
-use Rattle.std.specs.Prelude.{ℕ, zero, suc, List, [], ◌∷◌, map, Some, None, filter, Option}
+use Rattle.std.specs.Prelude.{ℕ, List, map, filter}
 use Rattle.fields.specs.declared.position.Position.{Position}
 use Rattle.link.specs.Addresses.{link_address}
 use Rattle.link.specs.declared.address.LinkAddress.{LinkAddress}
@@ -15,9 +15,3 @@ distances span ss = map (λ s. span s.vector.position) (neighbours ss)
 
 abbrev pub link_addresses : List Station → List LinkAddress
 link_addresses ss = map (λ s. link_address s.vector.address) (neighbours ss)
-
--- the element at an index, counted from 0
-abbrev pub nth : {X : Type 0} → List X → ℕ → Option X
-nth [] i = None
-nth (x ∷ xs) zero = Some x
-nth (x ∷ xs) (suc i) = nth xs i

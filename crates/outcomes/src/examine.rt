@@ -1,34 +1,31 @@
 // Octets taken apart, and put together again.
 ghost use Rattle.outcomes.specs.Outcomes.{Examined, WrittenBack};
 
-use crate::outcome::Outcome;
+use crate::taken::Taken;
+use packets::fault::HeaderFault;
 use reader::read::read;
 use roundtrip::trips::rewrite;
 
 // The packet that the octets are, or why they are none.
-pub fn examine<'a>(octets: &'a [u8]) -> Outcome<'a>
+pub fn examine<'a>(octets: &'a [u8]) -> Result<Taken<'a>, HeaderFault>
     ensures { Examined octets.now result }
 {
-    match read(octets) {
-        Ok(packet) => {
-            let same = written_back(octets);
-            Outcome::Taken {
-                packet,
-                count: octets.len(),
-                same,
-            }
-        }
-        Err(fault) => Outcome::Refused(fault),
-    }
+    let packet = read(octets)?;
+    Ok(Taken {
+        packet,
+        count: octets.len(),
+        same: written_back(octets),
+    })
 }
 
-// Whether the packet that the octets are is written as these octets.
+// Whether the packet that the octets are is written as these octets. The writer fills a fixed buffer and takes no heap.
 fn written_back(octets: &[u8]) -> bool
     ensures { WrittenBack octets.now result }
 {
     let mut buffer = [0; 1458];
-    match rewrite(octets, &mut buffer) {
-        Ok(count) => &buffer[0..count] == octets,
-        Err(_) => false,
-    }
+    // is_ok_and would say the same, but its proof does not close.
+    let Ok(count) = rewrite(octets, &mut buffer) else {
+        return false;
+    };
+    &buffer[0..count] == octets
 }

@@ -2,6 +2,6 @@
 #![tactic(auto)]
 
 pub mod examine;
-pub mod outcome;
 pub mod reason;
 pub mod refusal;
+pub mod taken;

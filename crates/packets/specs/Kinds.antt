@@ -1,5 +1,8 @@
 -- The table of kinds. Assumes nothing.
-use Rattle.std.specs.Prelude.{ℕ, Bool, true, false, cond, Some, None, Option, ◌==◌}
+use Rattle.std.specs.Prelude.{◌≡◌, ◌≢◌, ℕ, Bool, true, false, cond, List, Some, None, Option, Ok, Err, Result, codes, ◌==◌}
+use Rattle.std.specs.Option.{ok_or}
+use Rattle.packets.specs.declared.kind.UnknownKind.{UnknownKind}
+use Rattle.packets.specs.declared.kind.UnknownName.{UnknownName}
 use Rattle.packets.specs.declared.kind.Kind.{Kind}
 use Rattle.packets.specs.declared.kind.Kind.TheVariants.{Beacon, Unicast, Anycast, Broadcast, SingleHop, MultiHop}
 
@@ -17,6 +20,24 @@ abbrev pub kind_of : ℕ → Option Kind
 kind_of b =
     cond (b == 16) (Some Beacon) (cond (b == 32) (Some Unicast) (cond (b == 48) (Some Anycast) (cond (b == 64) (Some Broadcast)
     (cond (b == 80) (Some SingleHop) (cond (b == 81) (Some MultiHop) None)))))
+
+-- the same, with the octet where there is none
+abbrev pub kind_from : ℕ → Result Kind UnknownKind
+kind_from b = ok_or (kind_of b) (record { octet = b })
+
+-- what a kind is called
+abbrev pub kind_name : Kind → List ℕ
+kind_name Beacon = codes "beacon"
+kind_name Unicast = codes "unicast"
+kind_name Anycast = codes "anycast"
+kind_name Broadcast = codes "broadcast"
+kind_name SingleHop = codes "single-hop"
+kind_name MultiHop = codes "multi-hop"
+
+-- the answer to a name: the kind that has it, or that no kind has
+abbrev pub KindNamed : List ℕ → Result Kind UnknownName → Type 0
+KindNamed name (Ok kind) = name ≡ kind_name kind
+KindNamed name (Err e) = (kind : Kind) → name ≢ kind_name kind
 
 -- the octets before the payload
 abbrev pub headers_of : Kind → ℕ

@@ -7,7 +7,7 @@ use fields::traffic_class::TrafficClass;
 use fields::upper_protocol::UpperProtocol;
 use times::lifetime::Lifetime;
 
-#[derive(Clone, Copy, Debug, PartialEq, Eq)]
+#[derive(Clone, Copy, Debug, Default, PartialEq, Eq)]
 pub struct CommonHeader {
     pub lifetime: Lifetime,
     pub remaining_hop_limit: u8,

@@ -1,9 +1,10 @@
 // Why octets are not a packet, and why a packet is not written.
 ghost use Rattle.std.specs.Prelude.{◌≡◌};
 ghost use Rattle.packets.specs.Faults.{header_number, header_place, write_number, write_place};
-ghost use Rattle.packets.specs.declared.fault.HeaderFault.TheVariants.{Octets};
+ghost use Rattle.packets.specs.declared.fault.HeaderFault.TheVariants.{Octets, UnknownKind};
 
-use octets::fault::OctetFault;
+use crate::kind::UnknownKind;
+use octets::fault::{Fault, OctetFault};
 
 #[derive(Clone, Copy, Debug, PartialEq, Eq)]
 pub enum HeaderFault {
@@ -17,11 +18,12 @@ pub enum HeaderFault {
     Lifetime,
 }
 
-impl HeaderFault {
-    // The number of the refusal.
-    pub fn number(&self) -> u8
-        ensures { result ≡ header_number self.now }
-    {
+impl Fault for HeaderFault {
+    ghost number = { header_number };
+
+    ghost place = { header_place };
+
+    fn number(&self) -> u8 {
         match self {
             HeaderFault::Octets(f) => f.number(),
             HeaderFault::TooLong => 2,
@@ -34,10 +36,7 @@ impl HeaderFault {
         }
     }
 
-    // The place of the octet at fault.
-    pub fn place(&self) -> usize
-        ensures { result ≡ header_place self.now }
-    {
+    fn place(&self) -> usize {
         match self {
             HeaderFault::Octets(f) => f.place(),
             HeaderFault::TooLong | HeaderFault::Version | HeaderFault::NextHeader => 0,
@@ -46,6 +45,14 @@ impl HeaderFault {
             HeaderFault::HopLimit => 3,
             HeaderFault::Lifetime => 2,
         }
+    }
+}
+
+impl From<UnknownKind> for HeaderFault {
+    ghost from_gives = { λ _ fault. fault ≡ UnknownKind };
+
+    fn from(_kind: UnknownKind) -> Self {
+        Self::UnknownKind
     }
 }
 
@@ -65,11 +72,12 @@ pub enum WriteFault {
     Payload,
 }
 
-impl WriteFault {
-    // The number of the refusal.
-    pub fn number(&self) -> u8
-        ensures { result ≡ write_number self.now }
-    {
+impl Fault for WriteFault {
+    ghost number = { write_number };
+
+    ghost place = { write_place };
+
+    fn number(&self) -> u8 {
         match self {
             WriteFault::HopLimit => 7,
             WriteFault::Lifetime => 8,
@@ -79,9 +87,7 @@ impl WriteFault {
     }
 
     // There is no octet at fault yet.
-    pub fn place(&self) -> usize
-        ensures { result ≡ write_place self.now }
-    {
+    fn place(&self) -> usize {
         0
     }
 }

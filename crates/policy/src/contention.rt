@@ -1,5 +1,5 @@
 // Contention-based forwarding: the more progress over the sender, the shorter the wait.
-ghost use Rattle.std.specs.Prelude.{◌≡◌, ◌≤◌};
+ghost use Rattle.std.specs.Prelude.{◌≡◌};
 ghost use Rattle.policy.specs.Choices.{contention, wait_for};
 ghost use Rattle.std.proofs.Common.{rules};
 
@@ -23,7 +23,7 @@ pub fn waiting_time(progress: u32) -> u8
 }
 
 #[derive(Clone, Copy, Debug)]
-pub struct Contention {}
+pub struct Contention;
 
 impl Policy for Contention {
     ghost choice = { λ _ ours sender _. contention ours sender };
@@ -31,12 +31,10 @@ impl Policy for Contention {
     ghost sound = { Prim.search rules };
 
     fn choose(&self, ours: u32, sender: Option<u32>, neighbours: &[u32]) -> Choice {
-        let Some(theirs) = sender else {
-            return Choice::Wait(LONGEST);
-        };
-        if theirs <= ours {
-            return Choice::NoProgress;
+        match sender {
+            None => Choice::Wait(LONGEST),
+            Some(theirs) if theirs <= ours => Choice::NoProgress,
+            Some(theirs) => Choice::Wait(waiting_time(theirs - ours)),
         }
-        Choice::Wait(waiting_time(theirs - ours))
     }
 }

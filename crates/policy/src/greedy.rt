@@ -7,7 +7,7 @@ use crate::Policy;
 use crate::choice::Choice;
 
 #[derive(Clone, Copy, Debug)]
-pub struct Greedy {}
+pub struct Greedy;
 
 impl Policy for Greedy {
     ghost choice = { λ _ ours _ near. greedy ours near };
@@ -20,9 +20,10 @@ impl Policy for Greedy {
     {
         let mut best = ours;
         let mut choice = Choice::Nobody;
-        for (index, distance) in neighbours.iter().enumerate() {
-            if *distance < best {
-                best = *distance;
+        // A loop that keeps the best so far and no min_by_key: a rule of the project.
+        for (index, &distance) in neighbours.iter().enumerate() {
+            if distance < best {
+                best = distance;
                 choice = Choice::Neighbour(index);
             }
         }

@@ -16,6 +16,7 @@ pub trait Policy {
     // same, always.
     ghost choice: { Self → ℕ → Option ℕ → List ℕ → Choice };
 
+    // Three parameters and no struct: they are the one question of the trait, and asked in one place.
     fn choose(&self, ours: u32, sender: Option<u32>, neighbours: &[u32]) -> Choice
         ensures { result ≡ choice self.now ours sender neighbours.now };
 

@@ -1,2 +1,2 @@
-pub mod Heads
 pub mod Queues
+pub mod Shorts

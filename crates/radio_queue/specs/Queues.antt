@@ -1,27 +1,17 @@
 -- The frames that wait in a queue, and the first of them. Assumes nothing.
-use Rattle.std.specs.Prelude.{ℕ, Bool, ◌&&◌, List, [], ◌∷◌, ◌++◌, length, drop, Some, None, vec_items, Option, nat_le, nat_lt}
+use Rattle.std.specs.Prelude.{ℕ, Bool, ◌&&◌, List, [], ◌∷◌, ◌++◌, length, drop, nat_le, nat_lt}
 use Rattle.link.specs.Frames.{Frame, frame}
 use Rattle.radio_queue.specs.declared.frame.Head.{Head}
 use Rattle.radio_queue.specs.declared.frame.FrameView.{FrameView}
 use Rattle.radio_queue.specs.declared.queue.RadioQueue.{RadioQueue}
-use Rattle.radio_queue.specs.Heads.{cut}
-
--- the frames that wait, the one that waits longest first
-abbrev pub waiting : RadioQueue → List Frame
-waiting q = cut (vec_items q.heads) (vec_items q.octets)
 
 -- there is space for a packet while fewer than eight frames wait, if it has at most 1,458 octets
 abbrev pub has_space : RadioQueue → ℕ → Bool
-has_space q n = nat_lt (length (waiting q)) 8 && nat_le n 1458
+has_space q n = nat_lt (length q) 8 && nat_le n 1458
 
 -- the frame that a view shows
 abbrev pub viewed : FrameView → Frame
 viewed v = frame v.to v.packet.now
-
--- the first of some frames
-abbrev pub first_of : List Frame → Option Frame
-first_of [] = None
-first_of (f ∷ fs) = Some f
 
 -- where a frame goes, and how many octets its packet has
 abbrev pub head_of : Frame → Head

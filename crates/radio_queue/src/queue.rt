@@ -1,9 +1,7 @@
-// At most eight frames of at most 1,458 octets, in storage that is reserved when the queue is made: a head for each, and
-// the octets of all packets, one after another.
-ghost use Rattle.std.specs.Prelude.{◌≡◌, ◌≤◌, vec_len, vec_capacity};
-ghost use Rattle.radio_queue.specs.Heads.{total, largest};
-
-use crate::frame::Head;
+// At most eight frames of at most 1,458 octets, in storage that is reserved when the queue is made.
+use crate::frame::QueuedFrame;
+use std::collections::VecDeque;
+use std::marker::Model;
 
 pub mod methods;
 pub mod sending;
@@ -14,13 +12,21 @@ pub const FRAMES: usize = 8;
 // How many octets the packet of each can have.
 pub const OCTETS: usize = 1_458;
 
+// In clauses a queue is the list of the frames that wait, the one that has waited longest first.
 #[derive(Drop)]
 pub struct RadioQueue {
-    heads: Vec<Head>,
-    octets: Vec<u8>,
-    ghost few: { vec_len heads ≤ 8 },
-    ghost places: { 8 ≤ vec_capacity heads },
-    ghost storage: { 11664 ≤ vec_capacity octets },
-    ghost whole: { total heads.items ≡ vec_len octets },
-    ghost small: { largest heads.items ≤ 1458 },
+    frames: VecDeque<QueuedFrame>,
+}
+
+impl Model for RadioQueue {
+    ghost use Rattle.std.specs.Prelude.{◌≤◌, List, All};
+    ghost use Rattle.std.specs.VecDeque.{deque_len, deque_capacity};
+    ghost use Rattle.link.specs.Frames.{Frame};
+    ghost use Rattle.radio_queue.specs.Shorts.{IsShort};
+
+    ghost Value = { List Frame };
+
+    ghost view = { λ q. q.frames.items };
+
+    ghost invariant = { λ q. (deque_len q.frames ≤ 8) × (8 ≤ deque_capacity q.frames) × All IsShort q.frames.items };
 }

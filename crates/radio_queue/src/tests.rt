@@ -16,7 +16,7 @@ fn the_ninth_frame_waits_for_a_place(rt: HostRuntime) -> Result<(), Fail> {
     for octet in 0..8 {
         queue.send(BROADCAST, &[octet])?;
     }
-    assert_eq!(rt; queue.send(STATION, b"\x08"), Err(NoSpace {}));
+    assert_eq!(rt; queue.send(STATION, b"\x08"), Err(NoSpace));
     assert_eq!(rt; queue.len(), 8);
     let mut out = [0; 1458];
     assert!(rt; queue.take_first(&mut out).is_some());
@@ -56,7 +56,7 @@ fn frames_come_in_the_order_of_sending(rt: HostRuntime) -> Result<(), Fail> {
 #[test]
 fn a_packet_has_at_most_1458_octets(rt: HostRuntime) -> Result<(), Fail> {
     let mut queue = RadioQueue::new(rt.alloc())?;
-    assert_eq!(rt; queue.send(BROADCAST, &[5; 1459]), Err(NoSpace {}));
+    assert_eq!(rt; queue.send(BROADCAST, &[5; 1459]), Err(NoSpace));
     queue.send(BROADCAST, &[5; 1458])?;
     assert_eq!(rt; queue.first().ok_or("no frame")?.packet.len(), 1458);
     Ok(())

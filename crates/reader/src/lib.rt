@@ -2,5 +2,6 @@
 #![tactic(auto)]
 
 pub mod checks;
-pub mod headers;
+mod framed;
+mod headers;
 pub mod read;

@@ -3,10 +3,8 @@ ghost use Rattle.std.specs.Prelude.{◌≡◌, ◌≤◌, length, drop};
 ghost use Rattle.packets.specs.Contents.{content_in};
 ghost use Rattle.packets.specs.Reading.{reading};
 
-use crate::checks::{check_framing, check_lengths, check_limits};
-use crate::headers::{
-    read_area_header, read_beacon, read_common, read_multi_hop, read_single_hop, read_unicast,
-};
+use crate::checks::check_limits;
+use crate::framed::Framed;
 use packets::fault::HeaderFault;
 use packets::kind::Kind;
 use packets::packet::Packet;
@@ -15,18 +13,17 @@ use packets::packet::Packet;
 pub fn read<'a>(octets: &'a [u8]) -> Result<Packet<'a>, HeaderFault>
     ensures { content_in result ≡ reading octets.now }
 {
-    let kind = check_framing(octets)?;
-    check_lengths(kind, octets)?;
-    let common = read_common(octets);
-    check_limits(kind, &common)?;
-    let payload = payload_part(octets, kind.header_count());
-    match kind {
-        Kind::Beacon => Ok(Packet::Beacon(read_beacon(common, octets)?, payload)),
-        Kind::Unicast => Ok(Packet::Unicast(read_unicast(common, octets)?, payload)),
-        Kind::Anycast => Ok(Packet::Anycast(read_area_header(common, octets)?, payload)),
-        Kind::Broadcast => Ok(Packet::Broadcast(read_area_header(common, octets)?, payload)),
-        Kind::SingleHop => Ok(Packet::SingleHop(read_single_hop(common, octets)?, payload)),
-        Kind::MultiHop => Ok(Packet::MultiHop(read_multi_hop(common, octets)?, payload)),
+    let framed = Framed::new(octets)?;
+    framed.check_lengths()?;
+    check_limits(framed.kind, &framed.common())?;
+    let payload = payload_part(octets, framed.kind.header_count());
+    match framed.kind {
+        Kind::Beacon => Ok(Packet::Beacon(framed.beacon()?, payload)),
+        Kind::Unicast => Ok(Packet::Unicast(framed.unicast()?, payload)),
+        Kind::Anycast => Ok(Packet::Anycast(framed.area()?, payload)),
+        Kind::Broadcast => Ok(Packet::Broadcast(framed.area()?, payload)),
+        Kind::SingleHop => Ok(Packet::SingleHop(framed.single_hop()?, payload)),
+        Kind::MultiHop => Ok(Packet::MultiHop(framed.multi_hop()?, payload)),
     }
 }
 

@@ -3,6 +3,7 @@ ghost use Rattle.std.specs.Prelude.{◌≤◌};
 
 pub mod methods;
 
+// An array with a count and no ArrayVec: filling promises that the octets behind the count stay.
 #[derive(Drop)]
 pub struct ReceiveBuffer {
     octets: [u8; 1458],

@@ -1,5 +1,6 @@
 // A buffer filled, read, and filled again.
 use crate::buffer::ReceiveBuffer;
+use octets::fault::Fault;
 use packets::kind::Kind;
 use std::test::Fail;
 

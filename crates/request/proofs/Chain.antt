@@ -1,25 +1,41 @@
 -- The words of a line, one after another. Assumes nothing.
-use Rattle.std.proofs.Common.{◌≡◌, ℕ, List, [], ◌∷◌, Ok, Err, refl, inl, inr}
-use Rattle.request.specs.Requests.{Takes, AnswersOctets, Begins, Follows, Stops, Requested}
+use Rattle.std.proofs.Common.{◌≡◌, ℕ, List, [], ◌∷◌, Ok, Err, Result, refl, subst, inl, inr}
+use Rattle.request.specs.Answered.{OctetsAnswered, WordsAnswered}
+use Rattle.request.specs.Requests.{Takes, Meaningless, Begins, Follows, Stops, Requested}
+use Rattle.request.specs.Words.{AnswersSet}
 use Rattle.request.specs.declared.asked.Request.{Request}
-use Rattle.request.specs.declared.fault.RequestFault.{RequestFault}
-use Rattle.request.specs.declared.fault.RequestFault.TheVariants.{NotUnderstood, NoMemory}
+use Rattle.request.specs.declared.fault.LineFault.{LineFault}
+use Rattle.request.specs.declared.fault.LineFault.TheVariants.{NotUnderstood, NoMemory}
 
--- a word more
-pub follows_more : (left words : List (List ℕ)) (word : List ℕ) (before middle last : Request) → left ≡ word ∷ words → Takes word before middle → Follows words middle last → Follows left before last
-follows_more left words word before middle last e h k = rw e (middle, h, k)
+-- a word that is taken
+takes : (word : List ℕ) (before after : Request) → OctetsAnswered AnswersSet word before after (Ok tt) → Takes word before after
+takes word before after (inl (_, n)) = absurd (let z : ◌≡◌ {A = Result (Unit {0}) LineFault} (Ok tt) (Err NotUnderstood) = n.refused in cc)
+takes word before after (inr (inl (_, n))) = absurd (let z : ◌≡◌ {A = Result (Unit {0}) LineFault} (Ok tt) (Err NotUnderstood) = n.refused in cc)
+takes word before after (inr (inr h)) = h
 
-pub stops_more : (left words : List (List ℕ)) (word : List ℕ) (before middle : Request) → left ≡ word ∷ words → Takes word before middle → Stops words middle → Stops left before
-stops_more left words word before middle e h k = rw e (inr (middle, h, k))
+-- a word that is not understood
+meaningless : (word : List ℕ) (before after : Request) → OctetsAnswered AnswersSet word before after (Err NotUnderstood) → Meaningless word before
+meaningless word before after (inl (n, _)) = inl n
+meaningless word before after (inr (inl (unsplit, _))) = inr (refl, inl unsplit)
+meaningless word before after (inr (inr (name, text, s, h))) = inr (refl, inr (name, text, s, h.1))
 
--- the end of the line
-pub follows_all : (left : List (List ℕ)) (last : Request) → left ≡ [] → Follows left last last
-follows_all left last e = rw e refl
+follows : (words : List (List ℕ)) (before after : Request) (r : Result (Unit {0}) LineFault) → WordsAnswered AnswersSet words before after r → r ≡ Ok tt → Follows words before after
+follows [] before after r h e = h.0
+follows (word ∷ words) before after r (inl (fault, a, f)) e = absurd (let z : ◌≡◌ {A = Result (Unit {0}) LineFault} (Ok tt) (Err fault) = cc in cc)
+follows (word ∷ words) before after r (inr (middle, a, k)) e = (middle, takes word before middle a, follows words middle after r k e)
 
-pub requested : (all words : List (List ℕ)) (word : List ℕ) (start last : Request) → all ≡ word ∷ words → Begins word start → Follows words start last → Requested all (Ok last)
-requested all words word start last e b k = rw e (start, b, k)
+stops : (words : List (List ℕ)) (before after : Request) (r : Result (Unit {0}) LineFault) → WordsAnswered AnswersSet words before after r → r ≡ Err NotUnderstood → Stops words before
+stops [] before after r h e = absurd (let z : ◌≡◌ {A = Result (Unit {0}) LineFault} (Ok tt) (Err NotUnderstood) = cc in cc)
+stops (word ∷ words) before after r (inl (fault, a, f)) e =
+    let same : fault ≡ NotUnderstood = cc in
+    inl (meaningless word before after (subst (λ (x : LineFault). OctetsAnswered AnswersSet word before after (Err x)) same a))
+stops (word ∷ words) before after r (inr (middle, a, k)) e = inr (middle, takes word before middle a, stops words middle after r k e)
 
--- a word that is refused
-pub refused : (all words left behind : List (List ℕ)) (first word : List ℕ) (start before after : Request) (fault : RequestFault) → all ≡ first ∷ words → Begins first start → left ≡ word ∷ behind → AnswersOctets word before after (Err fault) → (Stops left before → Stops words start) → Requested all (Err fault)
-refused all words left behind first word start before after NotUnderstood e b f h k = rw e (inr (start, b, k (rw f (inl h))))
-refused all words left behind first word start before after NoMemory e b f h k = rw e tt
+-- all words are taken
+pub requested : (all words : List (List ℕ)) (word : List ℕ) (start last : Request) → all ≡ word ∷ words → Begins word start → WordsAnswered AnswersSet words start last (Ok tt) → Requested all (Ok last)
+requested all words word start last e b h = rw e (start, b, follows words start last (Ok tt) h refl)
+
+-- one of them is refused
+pub refused : (all words : List (List ℕ)) (word : List ℕ) (start last : Request) (fault : LineFault) → all ≡ word ∷ words → Begins word start → WordsAnswered AnswersSet words start last (Err fault) → Requested all (Err fault)
+refused all words word start last NotUnderstood e b h = rw e (inr (start, b, stops words start last (Err NotUnderstood) h refl))
+refused all words word start last NoMemory e b h = rw e tt

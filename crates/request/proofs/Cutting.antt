@@ -1,85 +1,116 @@
 -- How a text is cut into words. Assumes nothing.
-use Rattle.std.proofs.Common.{◌≡◌, ℕ, suc, ◌+◌, ◌<◌, ◌≤◌, Bool, true, false, cond, not, List, [], ◌∷◌, ◌++◌, length, get_or, take, drop, sym, refl, ap, ◌∙◌, arith}
-use mathlib.Core.Bool.{beq}
-use Rattle.std.proofs.lemmas.List.{drop_more, drop_all, append_assoc, append-nil}
+use Rattle.std.proofs.Common.{◌≡◌, ℕ, suc, ◌+◌, ◌<◌, ◌≤◌, ◌≢◌, Bool, true, false, cond, not, ltb, List, [], ◌∷◌, ◌++◌, length, take, drop, Some, None, Option, sym, refl, ap, ◌∙◌, arith, length-drop, length-take-le}
+use Rattle.std.proofs.lemmas.Bool.{ltb-true, ltb-false}
+use Rattle.std.proofs.lemmas.List.{append_assoc, append-nil, drop_all}
+use Rattle.std.proofs.lemmas.List.Recursion.{is_position_or_len}
+use Rattle.std.specs.List.{position, position_or_len}
+use Rattle.std.specs.Option.{unwrap_or}
 use Rattle.hex_digits.specs.Hex.{blank}
-use Rattle.request.specs.Cuts.{ended, words_from, words_of, like, front_count}
+use Rattle.request.specs.Cuts.{ended, words_from, words_of}
 
--- an octet that is like the ones before is counted
-pub front_like : (k : Bool) (text : List ℕ) (i : ℕ) → i < length text → like k (get_or text i 0) ≡ true → front_count k (drop i text) ≡ suc (front_count k (drop (i + 1) text))
-unfolding front_count
-front_like k text i h e =
-    ap (front_count k) (drop_more text i 0 h) ∙ ap (λ b. cond b (suc (front_count k (drop (i + 1) text))) 0) e
+-- how many octets stand before the first that passes a test
+unfoldable pub front : (ℕ → Bool) → List ℕ → ℕ
+front test [] = 0
+front test (b ∷ text) = cond (test b) 0 (suc (front test text))
 
-pub front_other : (k : Bool) (text : List ℕ) (i : ℕ) → i < length text → like k (get_or text i 0) ≡ false → front_count k (drop i text) ≡ 0
-unfolding front_count
-front_other k text i h e =
-    ap (front_count k) (drop_more text i 0 h) ∙ ap (λ b. cond b (suc (front_count k (drop (i + 1) text))) 0) e
-
-pub front_all : (k : Bool) (text : List ℕ) (i : ℕ) → length text ≤ i → front_count k (drop i text) ≡ 0
-unfolding front_count
-front_all k text i h = ap (front_count k) (drop_all i text h)
+-- no space and no tab
+abbrev pub dark : ℕ → Bool
+dark b = not (blank b)
 
 -- blanks before a word are passed over
-skipped : (b : ℕ) (text : List ℕ) (x : Bool) → blank b ≡ x → words_from text [] ≡ words_from (drop (front_count true text) text) [] → words_from (b ∷ text) [] ≡ words_from (drop (front_count true (b ∷ text)) (b ∷ text)) []
-unfolding words_from front_count
+skipped : (b : ℕ) (text : List ℕ) (x : Bool) → blank b ≡ x → words_from text [] ≡ words_from (drop (front dark text) text) [] → words_from (b ∷ text) [] ≡ words_from (drop (front dark (b ∷ text)) (b ∷ text)) []
+unfolding words_from front
 skipped b text true e h = rw e h
 skipped b text false e h = rw e (rw e refl)
 
-pub words_skip : (text : List ℕ) → words_from text [] ≡ words_from (drop (front_count true text) text) []
-unfolding front_count
+words_skip : (text : List ℕ) → words_from text [] ≡ words_from (drop (front dark text) text) []
+unfolding front
 words_skip [] = refl
 words_skip (b ∷ text) = skipped b text (blank b) refl (words_skip text)
 
 -- a word goes on up to the next blank
-cutting : (b : ℕ) (text word : List ℕ) (x : Bool) → blank b ≡ x → words_from text (word ++ b ∷ []) ≡ ended ((word ++ b ∷ []) ++ take (front_count false text) text) (words_from (drop (front_count false text) text) []) → words_from (b ∷ text) word ≡ ended (word ++ take (front_count false (b ∷ text)) (b ∷ text)) (words_from (drop (front_count false (b ∷ text)) (b ∷ text)) [])
-unfolding words_from front_count
+cutting : (b : ℕ) (text word : List ℕ) (x : Bool) → blank b ≡ x → words_from text (word ++ b ∷ []) ≡ ended ((word ++ b ∷ []) ++ take (front blank text) text) (words_from (drop (front blank text) text) []) → words_from (b ∷ text) word ≡ ended (word ++ take (front blank (b ∷ text)) (b ∷ text)) (words_from (drop (front blank (b ∷ text)) (b ∷ text)) [])
+unfolding words_from front
 cutting b text word true e h = rw e (rw e (ap (λ w. ended w (words_from text [])) (sym (append-nil word))))
-cutting b text word false e h = rw e (h ∙ ap (λ w. ended w (words_from (drop (front_count false text) text) [])) (append_assoc word (b ∷ []) (take (front_count false text) text)))
+cutting b text word false e h = rw e (h ∙ ap (λ w. ended w (words_from (drop (front blank text) text) [])) (append_assoc word (b ∷ []) (take (front blank text) text)))
 
-pub words_cut : (text word : List ℕ) → words_from text word ≡ ended (word ++ take (front_count false text) text) (words_from (drop (front_count false text) text) [])
-unfolding words_from front_count
+words_cut : (text word : List ℕ) → words_from text word ≡ ended (word ++ take (front blank text) text) (words_from (drop (front blank text) text) [])
+unfolding words_from front
 words_cut [] word = ap (λ w. ended w []) (sym (append-nil word))
 words_cut (b ∷ text) word = cutting b text word (blank b) refl (words_cut text (word ++ b ∷ []))
 
 -- behind the blanks a word begins, unless the text ends
-begun : (b : ℕ) (text : List ℕ) (x : Bool) → blank b ≡ x → (front_count false (drop (front_count true text) text) ≡ 0 → drop (front_count true text) text ≡ []) → front_count false (drop (front_count true (b ∷ text)) (b ∷ text)) ≡ 0 → drop (front_count true (b ∷ text)) (b ∷ text) ≡ []
-unfolding front_count
-begun b text true e h z = rw e (h (rw e at z))
-begun b text false e h z = let y : suc (front_count false text) ≡ 0 = rw e at (rw e at z) in absurd (omega arith)
+beginning : (b : ℕ) (text : List ℕ) (x : Bool) → blank b ≡ x → (front blank (drop (front dark text) text) ≡ 0 → drop (front dark text) text ≡ []) → front blank (drop (front dark (b ∷ text)) (b ∷ text)) ≡ 0 → drop (front dark (b ∷ text)) (b ∷ text) ≡ []
+unfolding front
+beginning b text true e h z = rw e (h (rw e at z))
+beginning b text false e h z = let y : suc (front blank text) ≡ 0 = rw e at (rw e at z) in absurd (omega arith)
 
-pub none_begins : (text : List ℕ) → front_count false (drop (front_count true text) text) ≡ 0 → drop (front_count true text) text ≡ []
-unfolding front_count
+none_begins : (text : List ℕ) → front blank (drop (front dark text) text) ≡ 0 → drop (front dark text) text ≡ []
+unfolding front
 none_begins [] z = refl
-none_begins (b ∷ text) z = begun b text (blank b) refl (none_begins text) z
+none_begins (b ∷ text) z = beginning b text (blank b) refl (none_begins text) z
 
--- an octet is like the ones that are counted, or it is not
-pub like_same : (k : Bool) (b : ℕ) (x : Bool) → x ≡ blank b → not (beq x k) ≡ false → like k b ≡ true
-like_same true b true e h = sym e
-like_same true b false e h = cc
-like_same false b true e h = cc
-like_same false b false e h = ap not (sym e)
+-- the first that passes a test, by the library's words
+front_is : (test : ℕ → Bool) (text : List ℕ) → front test text ≡ position_or_len test text
+unfolding front
+front_is test text = is_position_or_len (front test) test refl (λ b text. let e : suc (front test text) ≡ 1 + front test text = omega arith in ap (λ n. cond (test b) 0 n) e) text
 
-pub like_other : (k : Bool) (b : ℕ) (x : Bool) → x ≡ blank b → not (beq x k) ≡ true → like k b ≡ false
-like_other true b true e h = cc
-like_other true b false e h = sym e
-like_other false b true e h = ap not (sym e)
-like_other false b false e h = cc
+front_within : (test : ℕ → Bool) (text : List ℕ) → front test text ≤ length text
+unfolding front
+front_within test [] = omega arith
+front_within test (b ∷ text) =
+    let h = front_within test text in
+    elim (test b) as (λ t. cond t 0 (suc (front test text)) ≤ suc (length text)) [ true ↦ omega arith | false ↦ omega arith ]
 
--- the first word, from its two counts
-pub first_word : (text rest0 word rest : List ℕ) (n m : ℕ) → n ≡ front_count true text → rest0 ≡ drop n text → m ≡ front_count false rest0 → word ≡ take m rest0 → rest ≡ drop m rest0 → words_of text ≡ ended word (words_of rest)
-first_word text rest0 word rest n m en eb em ew er =
-    let skip : words_of text ≡ words_of rest0 = words_skip text ∙ ap words_of (ap (λ k. drop k text) (sym en) ∙ sym eb) in
-    let cut : words_of rest0 ≡ ended (take (front_count false rest0) rest0) (words_of (drop (front_count false rest0) rest0)) = words_cut rest0 [] in
-    skip ∙ cut ∙ rw (← em, ← ew, ← er) refl
+placed_at : (n len i : ℕ) (x : Bool) → ltb n len ≡ x → Some i ≡ cond x (Some n) None → (i ≡ n) × (n < len)
+placed_at n len i true e h = (cc, ltb-true n len e)
+placed_at n len i false e h = absurd (let z : Some i ≡ None = h in cc)
 
-pub no_word : (text rest0 : List ℕ) (n m : ℕ) → n ≡ front_count true text → rest0 ≡ drop n text → m ≡ front_count false rest0 → m ≡ 0 → words_of text ≡ []
+found : (test : ℕ → Bool) (text : List ℕ) (i : ℕ) → Some i ≡ position test text → (i ≡ front test text) × (i < length text)
+found test text i h =
+    let p = placed_at (position_or_len test text) (length text) i _ refl h in
+    let e = front_is test text in
+    (cc, omega arith)
+
+not_placed : (n len : ℕ) (x : Bool) → ltb n len ≡ x → None ≡ cond x (Some n) None → len ≤ n
+not_placed n len true e h = absurd (let z : None ≡ Some n = h in cc)
+not_placed n len false e h = ltb-false n len e
+
+missing : (test : ℕ → Bool) (text : List ℕ) → None ≡ position test text → front test text ≡ length text
+missing test text h =
+    let p = not_placed (position_or_len test text) (length text) _ refl h in
+    let e = front_is test text in
+    let w = front_within test text in
+    omega arith
+
+ended_at : (test : ℕ → Bool) (text : List ℕ) (end : Option ℕ) → end ≡ position test text → unwrap_or end (length text) ≡ front test text
+ended_at test text None h = sym (missing test text h)
+ended_at test text (Some i) h = (found test text i h).0
+
+-- there is no word where no octet is dark
+pub no_word : (text : List ℕ) → None ≡ position dark text → words_of text ≡ []
 unfolding words_from
-no_word text rest0 n m en eb em z =
-    let same : rest0 ≡ drop (front_count true text) text = eb ∙ ap (λ k. drop k text) en in
-    let none : drop (front_count true text) text ≡ [] = none_begins text (ap (front_count false) (sym same) ∙ sym em ∙ z) in
-    words_skip text ∙ ap words_of none
+no_word text h =
+    let all = missing dark text h in
+    words_skip text ∙ ap words_of (drop_all (front dark text) text (omega arith))
 
-pub ended_some : (word : List ℕ) (words : List (List ℕ)) → 0 < length word → ended word words ≡ word ∷ words
+ended_some : (word : List ℕ) (words : List (List ℕ)) → 0 < length word → ended word words ≡ word ∷ words
 ended_some [] words h = absurd (omega arith)
 ended_some (b ∷ word) words h = refl
+
+some_octet : (text : List ℕ) → front dark text < length text → 0 < front blank (drop (front dark text) text)
+some_octet text h =
+    let more : front blank (drop (front dark text) text) ≢ 0 = λ z. let e = none_begins text z in omega (arith, ap length e, length-drop (front dark text) text) in
+    omega arith
+
+-- the first word, from its two ends
+pub first_word : (text begun word rest : List ℕ) (start : ℕ) (end : Option ℕ) → Some start ≡ position dark text → begun ≡ drop start text → end ≡ position blank begun → word ≡ take (unwrap_or end (length begun)) begun → rest ≡ drop (unwrap_or end (length begun)) begun → words_of text ≡ word ∷ words_of rest
+first_word text begun word rest start end s b e w r =
+    let here = found dark text start s in
+    let behind : begun ≡ drop (front dark text) text = b ∙ ap (λ k. drop k text) here.0 in
+    let skip : words_of text ≡ words_of begun = words_skip text ∙ ap words_of (sym behind) in
+    let count = ended_at blank begun end e in
+    let cut : words_of begun ≡ ended word (words_of rest) = words_cut begun [] ∙ rw (w, r, count) refl in
+    let long : length word ≡ front blank begun = ap length (w ∙ ap (λ n. take n begun) count) ∙ length-take-le _ _ (front_within blank begun) in
+    let some : 0 < front blank begun = rw behind (some_octet text (omega arith)) in
+    skip ∙ cut ∙ ended_some word (words_of rest) (omega arith)

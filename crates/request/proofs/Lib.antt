@@ -1,4 +1,2 @@
 pub mod Chain
 pub mod Cutting
-pub mod Parsed
-pub mod Worded

@@ -1,7 +1,7 @@
 -- The names of kinds and fields. Assumes nothing.
-use Rattle.std.specs.Prelude.{◌≡◌, ℕ, List, Some, None, codes, Option, ◌≢◌}
-use Rattle.packets.specs.declared.kind.Kind.{Kind}
-use Rattle.packets.specs.declared.kind.Kind.TheVariants as kinds
+use Rattle.std.specs.Prelude.{◌≡◌, ℕ, List, Ok, Err, codes, Result, ◌≢◌}
+use Rattle.request.specs.declared.fault.LineFault.{LineFault}
+use Rattle.request.specs.declared.fault.LineFault.TheVariants.{NotUnderstood}
 use Rattle.request.specs.declared.names.AreaField.{AreaField}
 use Rattle.request.specs.declared.names.AreaField.TheVariants as areas
 use Rattle.request.specs.declared.names.CommonField.{CommonField}
@@ -13,18 +13,10 @@ use Rattle.request.specs.declared.names.MotionField.TheVariants as motions
 use Rattle.request.specs.declared.names.VectorField.{VectorField}
 use Rattle.request.specs.declared.names.VectorField.TheVariants as vectors
 
--- the answer is what has this name, or none if nothing has it
-abbrev pub Named : {X : Type 0} → (X → List ℕ) → List ℕ → Option X → Type 0
-Named name_of name (Some x) = name ≡ name_of x
-Named {X} name_of name None = (x : X) → name ≢ name_of x
-
-abbrev pub kind_name : Kind → List ℕ
-kind_name kinds.Beacon = codes "beacon"
-kind_name kinds.Unicast = codes "unicast"
-kind_name kinds.Anycast = codes "anycast"
-kind_name kinds.Broadcast = codes "broadcast"
-kind_name kinds.SingleHop = codes "single-hop"
-kind_name kinds.MultiHop = codes "multi-hop"
+-- the answer is what has this name, or that it is not understood if nothing has it
+abbrev pub Named : {X : Type 0} → (X → List ℕ) → List ℕ → Result X LineFault → Type 0
+Named name_of name (Ok x) = name ≡ name_of x
+Named {X} name_of name (Err fault) = (fault ≡ NotUnderstood) × ((x : X) → name ≢ name_of x)
 
 abbrev pub common_name : CommonField → List ℕ
 common_name commons.Lifetime = codes "lifetime"

@@ -3,11 +3,11 @@ use Rattle.std.specs.Prelude.{◌≡◌, ℕ, ◌⊎◌, List, [], ◌∷◌, Ok
 use Rattle.packets.specs.declared.kind.Kind.{Kind}
 use Rattle.packets.specs.Contents.{Content}
 use Rattle.request.specs.Asked.{no_fields, packet_of}
-use Rattle.request.specs.Names.{kind_name}
+use Rattle.packets.specs.Kinds.{kind_name}
 use Rattle.request.specs.Words.{AnswersWord}
 use Rattle.request.specs.declared.asked.Request.{Request}
-use Rattle.request.specs.declared.fault.RequestFault.{RequestFault}
-use Rattle.request.specs.declared.fault.RequestFault.TheVariants.{NotUnderstood, NoMemory}
+use Rattle.request.specs.declared.fault.LineFault.{LineFault}
+use Rattle.request.specs.declared.fault.LineFault.TheVariants.{NotUnderstood, NoMemory}
 
 -- a word that is understood leads from one request to another
 abbrev pub Takes : List ℕ → Request → Request → Type 0
@@ -16,11 +16,6 @@ Takes word before after = AnswersWord word before after (Ok tt)
 -- the octets are no text, or no word that is understood
 abbrev pub Meaningless : List ℕ → Request → Type 0
 Meaningless word before = (IsUtf8 word → ⊥) ⊎ AnswersWord word before before (Err NotUnderstood)
-
-abbrev pub AnswersOctets : List ℕ → Request → Request → Result (Unit {0}) RequestFault → Type 0
-AnswersOctets word before after (Ok u) = Takes word before after
-AnswersOctets word before after (Err NotUnderstood) = Meaningless word before
-AnswersOctets word before after (Err NoMemory) = Unit {0}
 
 -- nothing is asked for but a kind
 pub record Begins (word : List ℕ) (start : Request) : Type 0 where
@@ -32,7 +27,7 @@ pub record Begins (word : List ℕ) (start : Request) : Type 0 where
 abbrev pub NoKind : List ℕ → Type 0
 NoKind word = (IsUtf8 word → ⊥) ⊎ ((kind : Kind) → word ≢ kind_name kind)
 
-abbrev pub AnswersKind : List ℕ → Result Request RequestFault → Type 0
+abbrev pub AnswersKind : List ℕ → Result Request LineFault → Type 0
 AnswersKind word (Ok start) = Begins word start
 AnswersKind word (Err NotUnderstood) = NoKind word
 AnswersKind word (Err NoMemory) = Unit {0}
@@ -48,7 +43,7 @@ Stops [] before = ⊥
 Stops (word ∷ words) before = Meaningless word before ⊎ ((middle : Request) × Takes word before middle × Stops words middle)
 
 -- the words of a line: a kind, and then what is set, each in its turn; or one that is not understood
-abbrev pub Requested : List (List ℕ) → Result Request RequestFault → Type 0
+abbrev pub Requested : List (List ℕ) → Result Request LineFault → Type 0
 Requested [] (Ok request) = ⊥
 Requested (word ∷ words) (Ok request) = (start : Request) × Begins word start × Follows words start request
 Requested [] (Err fault) = fault ≡ NotUnderstood

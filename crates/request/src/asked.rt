@@ -7,7 +7,7 @@ use vectors::long::LongPositionVector;
 use vectors::short::ShortPositionVector;
 
 // Every field that a packet of some kind has, but for the payload.
-#[derive(Clone, Copy)]
+#[derive(Clone, Copy, Default)]
 pub struct Fields {
     pub common: CommonHeader,
     pub number: SequenceNumber,

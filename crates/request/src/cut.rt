@@ -1,40 +1,40 @@
 // A text cut into words, at spaces and tabs.
-ghost use Rattle.std.specs.Prelude.{◌≡◌, ◌≤◌, length};
-ghost use Rattle.request.specs.Cuts.{FirstOf, front_count};
+ghost use Rattle.std.specs.Prelude.{◌≡◌, not, position};
+ghost use Rattle.std.specs.Iterator.{YieldsFirstRef, item_count};
+ghost use Rattle.hex_digits.specs.Hex.{blank};
+ghost use Rattle.request.specs.Cuts.{words_of};
 
 use hex_digits::decode::is_blank;
 
-// A word, and the text behind it.
-#[derive(Clone, Copy)]
-pub struct Cut<'a> {
-    pub word: &'a [u8],
-    pub rest: &'a [u8],
-}
+// The words of a text, one after another.
+#[derive(Drop)]
+pub struct Words<'a>(pub &'a [u8]);
 
-// The first word of a text; none, if there are only spaces and tabs.
-pub fn next_word<'a>(text: &'a [u8]) -> Option<Cut<'a>>
-    ensures { FirstOf text.now result }
-{
-    let (_, begun) = text.split_at(front_count(text, true));
-    let (word, rest) = begun.split_at(front_count(begun, false));
-    if word.is_empty() {
-        None
-    } else {
-        Some(Cut { word, rest })
+impl<'a> Iterator for Words<'a> {
+    type Item = &'a [u8];
+
+    ghost next_gives = { YieldsFirstRef (λ s. words_of s.0.now) };
+
+    ghost remaining = { item_count (λ s. words_of s.0.now) };
+
+    fn next(&mut self) -> Option<&'a [u8]> {
+        let (_, begun) = self.0.split_at(word_start(self.0)?);
+        let (word, rest) = begun.split_at(word_end(begun).unwrap_or(begun.len()));
+        self.0 = rest;
+        Some(word)
     }
 }
 
-// How many octets at the front of a text are blank, or how many are not.
-fn front_count(text: &[u8], blank: bool) -> usize
-    ensures value { result ≡ front_count blank text.now }
-    ensures bound { result ≤ length text.now }
+// The place of the first octet that is not blank.
+fn word_start(text: &[u8]) -> Option<usize>
+    ensures { result ≡ position (λ b. not (blank b)) text.now }
 {
-    let mut count = 0;
-    for b in text {
-        if is_blank(*b) != blank {
-            return count;
-        }
-        count += 1;
-    }
-    count
+    text.iter().position(|b| !is_blank(*b))
+}
+
+// The place of the first octet that is blank.
+fn word_end(text: &[u8]) -> Option<usize>
+    ensures { result ≡ position blank text.now }
+{
+    text.iter().position(|b| is_blank(*b))
 }

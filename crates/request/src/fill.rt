@@ -1,13 +1,13 @@
-// One field set to what a text says; none, if the text says nothing or too much for the field.
+// One field set to what a text says; none, if the text says nothing or too much for the field. Functions for the parts, and
+// no methods: their types are of other crates.
 ghost use Rattle.std.specs.Prelude.{◌≡◌};
 ghost use Rattle.request.specs.Asked.{common_with, vector_with, motion_with, area_with, fields_with};
 
 use crate::asked::Fields;
 use crate::names::{AreaField, CommonField, Field, MotionField, VectorField};
-use crate::numbers::{flag_in, i16_in, i32_in, u8_in, u16_in, u32_in};
+use crate::numbers::{flag_in, number_in};
 use fields::address::Address;
 use fields::motion::Motion;
-use fields::position::Position;
 use fields::sequence_number::SequenceNumber;
 use fields::traffic_class::TrafficClass;
 use fields::upper_protocol::UpperProtocol;
@@ -19,26 +19,33 @@ use vectors::area::Area;
 use vectors::long::LongPositionVector;
 use vectors::short::ShortPositionVector;
 
-pub(crate) fn fields_with(fields: &Fields, field: Field, value: &str) -> Option<Fields>
-    ensures { result ≡ fields_with field value.now fields.now }
-{
-    let mut filled = *fields;
-    match field {
-        Field::Common(part) => filled.common = common_with(fields.common, part, value)?,
-        Field::Source(part) => filled.source.short = vector_with(fields.source.short, part, value)?,
-        Field::Motion(part) => filled.source = motion_with(fields.source, part, value)?,
-        Field::Destination(part) => filled.destination = vector_with(
-            fields.destination,
-            part,
-            value,
-        )?,
-        Field::Area(part) => filled.area = area_with(fields.area, part, value)?,
-        Field::Number => filled.number = SequenceNumber {
-            value: u16_in(value)?,
-        },
-        Field::Media => filled.media = u32_of(value.as_bytes())?,
+impl Fields {
+    // The fields with one of them set.
+    pub(crate) fn with(&self, field: Field, value: &str) -> Option<Fields>
+        ensures { result ≡ fields_with field value.now self.now }
+    {
+        let mut filled = *self;
+        match field {
+            Field::Common(part) => filled.common = common_with(self.common, part, value)?,
+            Field::Source(part) => filled.source.short = vector_with(
+                self.source.short,
+                part,
+                value,
+            )?,
+            Field::Motion(part) => filled.source = motion_with(self.source, part, value)?,
+            Field::Destination(part) => filled.destination = vector_with(
+                self.destination,
+                part,
+                value,
+            )?,
+            Field::Area(part) => filled.area = area_with(self.area, part, value)?,
+            Field::Number => filled.number = SequenceNumber {
+                value: number_in(value)?,
+            },
+            Field::Media => filled.media = u32_of(value.as_bytes())?,
+        }
+        Some(filled)
     }
-    Some(filled)
 }
 
 fn common_with(common: CommonHeader, field: CommonField, value: &str) -> Option<CommonHeader>
@@ -47,14 +54,16 @@ fn common_with(common: CommonHeader, field: CommonField, value: &str) -> Option<
     let mut filled = common;
     match field {
         CommonField::Lifetime => filled.lifetime = Lifetime {
-            octet: u8_in(value)?,
+            octet: number_in(value)?,
         },
-        CommonField::RemainingHopLimit => filled.remaining_hop_limit = u8_in(value)?,
-        CommonField::MaximumHopLimit => filled.maximum_hop_limit = u8_in(value)?,
+        CommonField::RemainingHopLimit => filled.remaining_hop_limit = number_in(value)?,
+        CommonField::MaximumHopLimit => filled.maximum_hop_limit = number_in(value)?,
         CommonField::TrafficClass => filled.traffic_class = TrafficClass {
-            octet: u8_in(value)?,
+            octet: number_in(value)?,
         },
-        CommonField::UpperProtocol => filled.upper_protocol = UpperProtocol::new(u8_in(value)?)?,
+        CommonField::UpperProtocol => {
+            filled.upper_protocol = number_in::<u8>(value)?.try_into().ok()?;
+        }
         CommonField::Mobile => filled.mobile = flag_in(value)?,
     }
     Some(filled)
@@ -73,10 +82,10 @@ fn vector_with(
             value: u64_of(value.as_bytes())?,
         },
         VectorField::Timestamp => filled.timestamp = Timestamp {
-            millis: u32_in(value)?,
+            millis: number_in(value)?,
         },
-        VectorField::Latitude => filled.position.latitude = i32_in(value)?,
-        VectorField::Longitude => filled.position.longitude = i32_in(value)?,
+        VectorField::Latitude => filled.position.latitude = number_in(value)?,
+        VectorField::Longitude => filled.position.longitude = number_in(value)?,
     }
     Some(filled)
 }
@@ -96,9 +105,9 @@ fn motion_with(
         )?,
         MotionField::Speed => filled.motion = Motion::new(
             vector.motion.accurate(),
-            i16_in(value)?,
+            number_in(value)?,
         )?,
-        MotionField::Heading => filled.heading = u16_in(value)?,
+        MotionField::Heading => filled.heading = number_in(value)?,
     }
     Some(filled)
 }
@@ -108,11 +117,11 @@ fn area_with(area: Area, field: AreaField, value: &str) -> Option<Area>
 {
     let mut filled = area;
     match field {
-        AreaField::Latitude => filled.centre.latitude = i32_in(value)?,
-        AreaField::Longitude => filled.centre.longitude = i32_in(value)?,
-        AreaField::Radius => filled.radius = u16_in(value)?,
-        AreaField::DistanceB => filled.distance_b = u16_in(value)?,
-        AreaField::Angle => filled.angle = u16_in(value)?,
+        AreaField::Latitude => filled.centre.latitude = number_in(value)?,
+        AreaField::Longitude => filled.centre.longitude = number_in(value)?,
+        AreaField::Radius => filled.radius = number_in(value)?,
+        AreaField::DistanceB => filled.distance_b = number_in(value)?,
+        AreaField::Angle => filled.angle = number_in(value)?,
     }
     Some(filled)
 }

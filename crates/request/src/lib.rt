@@ -2,7 +2,6 @@
 #![tactic(auto)]
 
 pub mod asked;
-pub mod blank;
 pub mod cut;
 pub mod fault;
 pub mod fill;
@@ -11,4 +10,7 @@ pub mod lookup;
 pub mod make;
 pub mod names;
 pub mod numbers;
+pub mod take;
+#[cfg(test)]
+mod tests;
 pub mod words;

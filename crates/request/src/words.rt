@@ -1,14 +1,12 @@
 // A request, word by word.
 ghost use Rattle.std.specs.Prelude.{◌≡◌, []};
 ghost use Rattle.request.specs.Asked.{no_fields};
-ghost use Rattle.request.specs.Words.{AnswersSet, AnswersWord, AnswersPayload, AnswersField};
+ghost use Rattle.request.specs.Words.{AnswersSet, AnswersPayload, AnswersField};
 
-use crate::asked::Request;
-use crate::blank::no_fields;
-use crate::fault::RequestFault;
-use crate::fill::fields_with;
-use crate::lookup::field_named;
+use crate::asked::{Fields, Request};
+use crate::fault::LineFault;
 use crate::names::Field;
+use crate::take::SetByName;
 use hex_digits::decode::decode;
 use packets::kind::Kind;
 use std::alloc::Global;
@@ -22,54 +20,38 @@ impl Request {
     {
         Request {
             kind,
-            fields: no_fields(),
+            fields: Fields::default(),
             payload: Vec::new(heap),
         }
     }
 
-    // Sets what the word `name=value` names. A word that is refused leaves the request as it was.
-    pub(crate) fn take_word(&mut self, heap: Global, word: &str) -> Result<(), RequestFault>
-        ensures { AnswersWord word.now self.old self.new result }
-    {
-        match word.split_once('=') {
-            Some((name, value)) => self.set(heap, name, value),
-            None => Err(RequestFault::NotUnderstood),
-        }
-    }
-
-    fn set(&mut self, heap: Global, name: &str, value: &str) -> Result<(), RequestFault>
-        ensures { AnswersSet name.now value.now self.old self.new result }
-    {
-        if name == "payload" {
-            return self.set_payload(heap, value);
-        }
-        match field_named(name) {
-            Some(field) => self.set_field(field, value),
-            None => Err(RequestFault::NotUnderstood),
-        }
-    }
-
-    fn set_payload(&mut self, heap: Global, value: &str) -> Result<(), RequestFault>
+    fn set_payload(&mut self, heap: Global, value: &str) -> Result<(), LineFault>
         ensures { AnswersPayload value.now self.old self.new result }
     {
-        match decode(heap, value.as_bytes())? {
-            Some(octets) => {
-                self.payload = octets;
-                Ok(())
-            }
-            None => Err(RequestFault::NotUnderstood),
-        }
+        self.payload = decode(heap, value.as_bytes())?;
+        Ok(())
     }
 
-    fn set_field(&mut self, field: Field, value: &str) -> Result<(), RequestFault>
+    fn set_field(&mut self, field: Field, value: &str) -> Result<(), LineFault>
         ensures { AnswersField field value.now self.old self.new result }
     {
-        match fields_with(&self.fields, field, value) {
-            Some(filled) => {
-                self.fields = filled;
-                Ok(())
-            }
-            None => Err(RequestFault::NotUnderstood),
+        self.fields = self
+            .fields
+            .with(field, value)
+            .ok_or(LineFault::NotUnderstood)?;
+        Ok(())
+    }
+}
+
+// A name or a value that is refused leaves the request as it was.
+impl SetByName for Request {
+    ghost setting = { AnswersSet };
+
+    fn set(&mut self, heap: Global, name: &str, value: &str) -> Result<(), LineFault> {
+        if name == "payload" {
+            self.set_payload(heap, value)
+        } else {
+            self.set_field(name.parse()?, value)
         }
     }
 }

@@ -3,7 +3,8 @@ use Rattle.std.proofs.Common.{◌≡◌, ℕ, ◌+◌, ◌^◌, ◌<◌, ◌≤�
 use Rattle.std.proofs.lemmas.List.{drop-drop, drop_at, take_at, length-append, append_assoc}
 use Rattle.std.proofs.lemmas.Bool.{le-ltb}
 use Rattle.std.specs.Int.Digits.{number_from_digits}
-use Rattle.octets.proofs.Width.{number_octets, length_octets, field_split}
+use Rattle.octets.proofs.Width.{number_octets, field_split}
+use Rattle.octets.specs.Widths.{length-octets_of}
 use Rattle.octets.specs.Faults.{read_at}
 use Rattle.octets.specs.Wire.{field_at, octets_of}
 
@@ -61,9 +62,9 @@ both_parts w v at m n xs ys o f g s t =
 -- a number that stands at a place is read there
 pub number_read : (w at n : ℕ) (o : List ℕ) → n < 256 ^ w → Stands w at (octets_of w n) o → read_at w at o ≡ Ok n
 number_read w at n o h s =
-    let f : field_at w at o ≡ n = ap (λ t. number_from_digits 256 (take w t)) s.same ∙ ap (number_from_digits 256) (take_at (octets_of w n) (drop (at + w) o) w (length_octets w n)) ∙ number_octets w n h in
+    let f : field_at w at o ≡ n = ap (λ t. number_from_digits 256 (take w t)) s.same ∙ ap (number_from_digits 256) (take_at (octets_of w n) (drop (at + w) o) w (length-octets_of w n)) ∙ number_octets w n h in
     rw (le-ltb (length o) (at + w) s.room, f)
 
 -- the number of the octets at a place stands there
 pub number_stands : (w at : ℕ) (o : List ℕ) → ((i : ℕ) → get_or o i 0 < 256) → at + w ≤ length o → Stands w at (octets_of w (field_at w at o)) o
-number_stands w at o u h = record { long = length_octets w (field_at w at o); room = h; same = field_split w at (at + w) o refl h u }
+number_stands w at o u h = record { long = length-octets_of w (field_at w at o); room = h; same = field_split w at (at + w) o refl h u }

@@ -1,41 +1,14 @@
 -- Reading and writing are each other's way back. Assumes nothing.
-use Rattle.std.specs.Prelude.{◌≡◌, ℕ, ◌+◌, ◌%◌, ◌^◌, ◌<◌, List, length, IfOk, Ok, slice_index}
+use Rattle.std.specs.Prelude.{◌≡◌, ℕ, ◌+◌, ◌%◌, ◌<◌, List, length, IfOk, Ok, slice_index}
 use Rattle.octets.specs.Wire.{field_at}
-use Rattle.vectors.specs.declared.long.LongPositionVector.{LongPositionVector}
-use Rattle.vectors.specs.declared.short.ShortPositionVector.{ShortPositionVector}
 use Rattle.packets.specs.Common.{octet}
-use Rattle.packets.specs.Contents.{Header, Content, beacon, unicast, anycast, broadcast, single_hop, multi_hop, kind_in}
+use Rattle.packets.specs.Contents.{Content, kind_in}
+use Rattle.packets.specs.Fitting.{Fits}
 use Rattle.packets.specs.Kinds.{headers_of}
 use Rattle.packets.specs.Reading.{reading}
 use Rattle.packets.specs.Writing.{wire, checked}
-use Rattle.packets.specs.declared.headers.AreaHeader.{AreaHeader}
 use Rattle.packets.specs.declared.kind.Kind.{Kind}
 use Rattle.packets.specs.declared.kind.Kind.TheVariants.{Beacon, Unicast, Anycast, Broadcast, SingleHop, MultiHop}
-
--- the numbers in a record fit the integers that hold them, as those of every value of the program do
-pub record ShortFits (v : ShortPositionVector) : Type 0 where
-  pub address : v.address.value < 256 ^ 8
-  pub timestamp : v.timestamp.millis < 256 ^ 4
-
-pub record LongFits (v : LongPositionVector) : Type 0 where
-  pub short : ShortFits v.short
-  pub motion : v.motion.bits < 256 ^ 2
-  pub heading : v.heading < 256 ^ 2
-
-pub record AreaFits (h : AreaHeader) : Type 0 where
-  pub number : h.number.value < 256 ^ 2
-  pub source : LongFits h.source
-  pub radius : h.area.radius < 256 ^ 2
-  pub distance : h.area.distance_b < 256 ^ 2
-  pub angle : h.area.angle < 256 ^ 2
-
-abbrev pub Fits : Header → Type 0
-Fits (beacon h) = LongFits h.source
-Fits (unicast h) = (h.number.value < 256 ^ 2) × LongFits h.source × ShortFits h.destination
-Fits (anycast h) = AreaFits h
-Fits (broadcast h) = AreaFits h
-Fits (single_hop h) = LongFits h.source × (h.media < 256 ^ 4)
-Fits (multi_hop h) = (h.number.value < 256 ^ 2) × LongFits h.source
 
 -- what the writer accepts, written, is read as it was
 abbrev pub ReadWritten : Type 0

@@ -3,6 +3,7 @@ ghost use Rattle.std.specs.Prelude.{◌≡◌};
 ghost use Rattle.rules.specs.Refusals.{number, place};
 ghost use Rattle.rules.specs.declared.fault.RouterFault.TheVariants.{Packet, Request};
 
+use octets::fault::Fault;
 use packets::fault::{HeaderFault, WriteFault};
 
 #[derive(Clone, Copy)]
@@ -23,6 +24,7 @@ pub enum RouterFault {
     Destination,
 }
 
+// One impl for each fault that `?` passes up.
 impl From<HeaderFault> for RouterFault {
     ghost from_gives = { λ f r. r ≡ Packet f };
 
@@ -39,10 +41,12 @@ impl From<WriteFault> for RouterFault {
     }
 }
 
-impl RouterFault {
-    pub fn number(self) -> u8
-        ensures { result ≡ number self }
-    {
+impl Fault for RouterFault {
+    ghost number = { number };
+
+    ghost place = { place };
+
+    fn number(&self) -> u8 {
         match self {
             RouterFault::Time => 1,
             RouterFault::Packet(fault) => fault.number(),
@@ -54,10 +58,8 @@ impl RouterFault {
         }
     }
 
-    // The place of the octet at fault, 0 where no received octet is.
-    pub fn place(self) -> usize
-        ensures { result ≡ place self }
-    {
+    // 0, where no received octet is at fault.
+    fn place(&self) -> usize {
         match self {
             RouterFault::Packet(fault) => fault.place(),
             _ => 0,

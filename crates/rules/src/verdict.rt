@@ -31,6 +31,7 @@ pub enum Verdict {
 }
 
 impl Verdict {
+    // A method and no From: a verdict says more than its number.
     pub fn number(self) -> u8
         ensures { result ≡ number self }
     {

@@ -1,28 +1,11 @@
-// The fields of a packet, in their order: a line for each.
+// The fields of a packet, in their order: a line for each. The types are of other crates, so each is wrapped to be shown.
 use crate::units::YesNo;
-use crate::vectors_shown::{AreaLines, ShortVectorLines, SourceLines, Whose};
+use crate::vectors_shown::{AreaLines, LinesOf, SourceLines, Whose};
 use fields::sequence_number::SequenceNumber;
 use fields::traffic_class::TrafficClass;
 use packets::common::CommonHeader;
-use packets::kind::Kind;
 use packets::packet::Packet;
 use std::fmt;
-
-#[derive(Clone, Copy)]
-pub struct KindName(pub Kind);
-
-impl fmt::Display for KindName {
-    fn fmt<W: fmt::Write>(&self, f: &mut fmt::Formatter<W>) -> fmt::Result {
-        f.write_str(match self.0 {
-            Kind::Beacon => "beacon",
-            Kind::Unicast => "unicast",
-            Kind::Anycast => "anycast",
-            Kind::Broadcast => "broadcast",
-            Kind::SingleHop => "single-hop",
-            Kind::MultiHop => "multi-hop",
-        })
-    }
-}
 
 // The traffic class octet, and what its top bit means.
 #[derive(Clone, Copy)]
@@ -49,7 +32,7 @@ impl fmt::Display for CommonLines {
         let octet = self.0.lifetime.octet;
         let remaining = self.0.remaining_hop_limit;
         let maximum = self.0.maximum_hop_limit;
-        let upper = self.0.upper_protocol.number();
+        let upper = u8::from(self.0.upper_protocol);
         let class = ShownClass(self.0.traffic_class);
         let mobile = YesNo(self.0.mobile);
         writeln!(f, "  lifetime: {millis} ms (octet {octet})")?;
@@ -83,9 +66,9 @@ impl fmt::Display for ExtendedLines<'_> {
             Packet::Beacon(_, _) => write!(f, "{source}"),
             Packet::Unicast(h, _) => {
                 let number = NumberLine(h.number);
-                let destination = ShortVectorLines {
+                let destination = LinesOf {
                     whose: Whose::Destination,
-                    vector: h.destination,
+                    field: h.destination,
                 };
                 write!(f, "{number}{source}{destination}")
             }

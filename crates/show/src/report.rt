@@ -1,7 +1,8 @@
 // The answers to the lines.
-use crate::packet_lines::{KindName, PacketLines};
-use outcomes::outcome::Outcome;
+use crate::packet_lines::PacketLines;
 use outcomes::refusal::Refusal;
+use outcomes::taken::Taken;
+use packets::fault::HeaderFault;
 use std::fmt;
 
 // The answer to a line, by its number, that has no octets on it.
@@ -21,41 +22,25 @@ impl fmt::Display for NotOctets {
 #[derive(Clone, Copy)]
 pub struct Report<'a> {
     pub line: u64,
-    pub outcome: Outcome<'a>,
+    pub outcome: Result<Taken<'a>, HeaderFault>,
 }
 
 impl fmt::Display for Report<'_> {
     fn fmt<W: fmt::Write>(&self, f: &mut fmt::Formatter<W>) -> fmt::Result {
         let line = self.line;
         match self.outcome {
-            Outcome::Refused(fault) => {
-                let refusal = Refusal::of_reader(&fault);
+            Ok(taken) => {
+                let kind = taken.packet.kind();
+                let count = taken.count;
+                let fields = PacketLines(taken.packet);
+                let octets = if taken.same { "the same" } else { "other" };
+                writeln!(f, "line {line}: {kind}, {count} octets")?;
+                writeln!(f, "{fields}  written back: {octets} octets")
+            }
+            Err(fault) => {
+                let refusal = Refusal::from(fault);
                 writeln!(f, "line {line}: {refusal}")
             }
-            Outcome::Taken {
-                packet,
-                count,
-                same,
-            } => {
-                let kind = KindName(packet.kind());
-                let fields = PacketLines(packet);
-                let octets = WrittenBack(same);
-                writeln!(f, "line {line}: {kind}, {count} octets")?;
-                write!(f, "{fields}{octets}")
-            }
         }
-    }
-}
-
-#[derive(Clone, Copy)]
-struct WrittenBack(bool);
-
-impl fmt::Display for WrittenBack {
-    fn fmt<W: fmt::Write>(&self, f: &mut fmt::Formatter<W>) -> fmt::Result {
-        f.write_str(if self.0 {
-            "  written back: the same octets\n"
-        } else {
-            "  written back: other octets\n"
-        })
     }
 }

@@ -12,13 +12,8 @@ impl fmt::Display for YesNo {
 }
 
 // The sign of a number that is written in parts: nothing, unless it is negative.
-#[derive(Clone, Copy)]
-struct Sign(bool);
-
-impl fmt::Display for Sign {
-    fn fmt<W: fmt::Write>(&self, f: &mut fmt::Formatter<W>) -> fmt::Result {
-        f.write_str(if self.0 { "-" } else { "" })
-    }
+fn sign(negative: bool) -> &'static str {
+    if negative { "-" } else { "" }
 }
 
 // A latitude or a longitude, from tenths of a microdegree.
@@ -28,7 +23,7 @@ pub struct Degrees(pub i32);
 impl fmt::Display for Degrees {
     fn fmt<W: fmt::Write>(&self, f: &mut fmt::Formatter<W>) -> fmt::Result {
         let value = self.0;
-        let sign = Sign(value < 0);
+        let sign = sign(value < 0);
         let size = value.unsigned_abs();
         write!(
             f,
@@ -46,7 +41,7 @@ pub struct MetresPerSecond(pub i16);
 impl fmt::Display for MetresPerSecond {
     fn fmt<W: fmt::Write>(&self, f: &mut fmt::Formatter<W>) -> fmt::Result {
         let value = self.0;
-        let sign = Sign(value < 0);
+        let sign = sign(value < 0);
         let size = value.unsigned_abs();
         write!(f, "{sign}{}.{:02} m/s ({value})", size / 100, size % 100)
     }

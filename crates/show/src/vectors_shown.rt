@@ -24,36 +24,31 @@ impl fmt::Display for Whose {
     }
 }
 
+// The lines of a field, each with whose it is.
 #[derive(Clone, Copy)]
-pub struct PositionLines {
+pub struct LinesOf<T> {
     pub whose: Whose,
-    pub position: Position,
+    pub field: T,
 }
 
-impl fmt::Display for PositionLines {
+impl fmt::Display for LinesOf<Position> {
     fn fmt<W: fmt::Write>(&self, f: &mut fmt::Formatter<W>) -> fmt::Result {
         let whose = self.whose;
-        let latitude = Degrees(self.position.latitude);
-        let longitude = Degrees(self.position.longitude);
+        let latitude = Degrees(self.field.latitude);
+        let longitude = Degrees(self.field.longitude);
         writeln!(f, "  {whose} latitude: {latitude}")?;
         writeln!(f, "  {whose} longitude: {longitude}")
     }
 }
 
-#[derive(Clone, Copy)]
-pub struct ShortVectorLines {
-    pub whose: Whose,
-    pub vector: ShortPositionVector,
-}
-
-impl fmt::Display for ShortVectorLines {
+impl fmt::Display for LinesOf<ShortPositionVector> {
     fn fmt<W: fmt::Write>(&self, f: &mut fmt::Formatter<W>) -> fmt::Result {
         let whose = self.whose;
-        let address = self.vector.address.value;
-        let millis = self.vector.timestamp.millis;
-        let position = PositionLines {
+        let address = self.field.address.value;
+        let millis = self.field.timestamp.millis;
+        let position = LinesOf {
             whose,
-            position: self.vector.position,
+            field: self.field.position,
         };
         writeln!(f, "  {whose} address: {address:016x}")?;
         writeln!(f, "  {whose} timestamp: {millis} ms")?;
@@ -67,9 +62,9 @@ pub struct SourceLines(pub LongPositionVector);
 
 impl fmt::Display for SourceLines {
     fn fmt<W: fmt::Write>(&self, f: &mut fmt::Formatter<W>) -> fmt::Result {
-        let short = ShortVectorLines {
+        let short = LinesOf {
             whose: Whose::Source,
-            vector: self.0.short,
+            field: self.0.short,
         };
         let accurate = YesNo(self.0.motion.accurate());
         let speed = MetresPerSecond(self.0.motion.speed());
@@ -86,9 +81,9 @@ pub struct AreaLines(pub Area);
 
 impl fmt::Display for AreaLines {
     fn fmt<W: fmt::Write>(&self, f: &mut fmt::Formatter<W>) -> fmt::Result {
-        let centre = PositionLines {
+        let centre = LinesOf {
             whose: Whose::Centre,
-            position: self.0.centre,
+            field: self.0.centre,
         };
         let radius = self.0.radius;
         let distance_b = self.0.distance_b;

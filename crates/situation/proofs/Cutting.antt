@@ -10,14 +10,14 @@ unfolding cut_at
 passed c b text true e h = absurd (h (eqb-true b c e))
 passed c b text false e h = rw e refl
 
-found : (c : ℕ) (front back : List ℕ) → ((i : ℕ) → i < length front → get_or front i 0 ≡ c → ⊥) → cut_at c (front ++ (c ∷ back)) ≡ Some (front, back)
+pub found : (c : ℕ) (front back : List ℕ) → ((i : ℕ) → i < length front → get_or front i 0 ≡ c → ⊥) → cut_at c (front ++ (c ∷ back)) ≡ Some (front, back)
 unfolding cut_at
 found c [] back h = let e : eqb c c ≡ true = eq-eqb c c refl in rw e refl
 found c (b ∷ front) back h =
     passed c b (front ++ (c ∷ back)) (eqb b c) refl (h 0 (omega arith)) ∙
     ap (option_map (longer b)) (found c front back (λ i l e. h (suc i) (omega arith) e))
 
-missing : (c : ℕ) (text : List ℕ) → ((i : ℕ) → i < length text → get_or text i 0 ≡ c → ⊥) → cut_at c text ≡ None
+pub missing : (c : ℕ) (text : List ℕ) → ((i : ℕ) → i < length text → get_or text i 0 ≡ c → ⊥) → cut_at c text ≡ None
 unfolding cut_at
 missing c [] h = refl
 missing c (b ∷ text) h =

@@ -8,8 +8,8 @@ use Rattle.situation.specs.Filled.{no_fields, fields_with}
 use Rattle.situation.specs.Halves.{cut_at}
 use Rattle.situation.specs.Names.{name_in}
 use Rattle.situation.specs.Values.{station_in}
-use Rattle.situation.specs.declared.fault.SituationFault.{SituationFault}
-use Rattle.situation.specs.declared.fault.SituationFault.TheVariants.{NotUnderstood, NoMemory}
+use Rattle.request.specs.declared.fault.LineFault.{LineFault}
+use Rattle.request.specs.declared.fault.LineFault.TheVariants.{NotUnderstood, NoMemory}
 use Rattle.situation.specs.declared.names.Name.{Name}
 use Rattle.situation.specs.declared.names.Name.TheVariants as names
 use Rattle.situation.specs.declared.told.Fields.{Fields}
@@ -22,7 +22,7 @@ pub record Told : Type 0 where
   pub packet : List ℕ
 
 abbrev pub told_by : Situation → Told
-told_by s = record { fields = s.fields; stations = vec_items s.table.entries; packet = vec_items s.packet }
+told_by s = record { fields = s.fields; stations = s.table; packet = vec_items s.packet }
 
 -- nothing yet
 abbrev pub blank : Told
@@ -48,22 +48,17 @@ described [] t = Some t
 described (word ∷ words) t = and_then (taken word t) (described words)
 
 -- what is told after a step; a refusal leaves it as it was, and says that the step tells of nothing, unless memory ran out
-abbrev pub Answers : Option Told → Situation → Situation → Result (Unit {0}) SituationFault → Type 0
+abbrev pub Answers : Option Told → Situation → Situation → Result (Unit {0}) LineFault → Type 0
 Answers told before after (Ok u) = told ≡ Some (told_by after)
 Answers told before after (Err NotUnderstood) = (told ≡ None) × (told_by after ≡ told_by before)
 Answers told before after (Err NoMemory) = told_by after ≡ told_by before
 
-abbrev pub AnswersSet : Name → List ℕ → Situation → Situation → Result (Unit {0}) SituationFault → Type 0
+abbrev pub AnswersSet : Name → List ℕ → Situation → Situation → Result (Unit {0}) LineFault → Type 0
 AnswersSet name text before after r = Answers (settled name text (told_by before)) before after r
 
-abbrev pub AnswersWord : List ℕ → Situation → Situation → Result (Unit {0}) SituationFault → Type 0
-AnswersWord word before after r = Answers (taken word (told_by before)) before after r
-
--- octets that are no text are not understood
-abbrev pub AnswersOctets : List ℕ → Situation → Situation → Result (Unit {0}) SituationFault → Type 0
-AnswersOctets word before after (Ok u) = taken word (told_by before) ≡ Some (told_by after)
-AnswersOctets word before after (Err NotUnderstood) = ((IsUtf8 word → ⊥) ⊎ (taken word (told_by before) ≡ None)) × (told_by after ≡ told_by before)
-AnswersOctets word before after (Err NoMemory) = told_by after ≡ told_by before
+-- what a name stands for, in words
+abbrev pub AnswersNamed : List ℕ → List ℕ → Situation → Situation → Result (Unit {0}) LineFault → Type 0
+AnswersNamed name text before after r = Answers (and_then (name_in name) (λ n. settled n text (told_by before))) before after r
 
 -- one of the words is no text
 abbrev pub NoText : List (List ℕ) → Type 0
@@ -71,7 +66,7 @@ NoText [] = ⊥
 NoText (word ∷ words) = (IsUtf8 word → ⊥) ⊎ NoText words
 
 -- the words of a line tell of this situation; or they tell of none, or one of them is no text
-abbrev pub Describes : List (List ℕ) → Result Situation SituationFault → Type 0
+abbrev pub Describes : List (List ℕ) → Result Situation LineFault → Type 0
 Describes words (Ok s) = described words blank ≡ Some (told_by s)
 Describes words (Err NotUnderstood) = (described words blank ≡ None) ⊎ NoText words
 Describes words (Err NoMemory) = Unit {0}

@@ -1,6 +1,8 @@
 -- The names of the fields. Assumes nothing.
-use Rattle.std.specs.Prelude.{ℕ, cond, List, [], ◌∷◌, Some, None, codes, Option}
+use Rattle.std.specs.Prelude.{◌≡◌, ℕ, cond, List, [], ◌∷◌, Some, None, Ok, Err, codes, Option, Result}
 use Rattle.std.specs.Str.{bytes_eq}
+use Rattle.request.specs.declared.fault.LineFault.{LineFault}
+use Rattle.request.specs.declared.fault.LineFault.TheVariants.{NotUnderstood}
 use Rattle.situation.specs.declared.names.Field.TheVariants as fields
 use Rattle.situation.specs.declared.names.Name.{Name}
 use Rattle.situation.specs.declared.names.Name.TheVariants as names
@@ -26,3 +28,8 @@ all_names =
 
 abbrev pub name_in : List ℕ → Option Name
 name_in text = lookup text all_names
+
+-- the answer is what has this name, or that it is not understood if nothing has it
+abbrev pub Named : List ℕ → Result Name LineFault → Type 0
+Named text (Ok name) = name_in text ≡ Some name
+Named text (Err fault) = (fault ≡ NotUnderstood) × (name_in text ≡ None)

@@ -1,7 +1,6 @@
 // A situation in words: where we, the sender, the target and the stations are, and what is to be carried on.
 #![tactic(auto)]
 
-pub mod fault;
 pub mod fill;
 pub mod halves;
 pub mod line;

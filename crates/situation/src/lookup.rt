@@ -1,23 +1,28 @@
 // What a name stands for. Names are in lower case.
-ghost use Rattle.std.specs.Prelude.{◌≡◌};
-ghost use Rattle.situation.specs.Names.{name_in};
+ghost use Rattle.situation.specs.Names.{Named};
 
 use crate::names::{Field, Name};
+use request::fault::LineFault;
+use std::str::FromStr;
 
-pub fn name_in(text: &str) -> Option<Name>
-    ensures { result ≡ name_in text.now }
-{
-    match text {
-        "scale" => Some(Name::Field(Field::Scale)),
-        "ours" => Some(Name::Field(Field::Ours)),
-        "target" => Some(Name::Field(Field::Target)),
-        "sender" => Some(Name::Field(Field::Sender)),
-        "radius" => Some(Name::Field(Field::Radius)),
-        "held" => Some(Name::Field(Field::Held)),
-        "room" => Some(Name::Field(Field::Room)),
-        "times" => Some(Name::Field(Field::Times)),
-        "station" => Some(Name::Station),
-        "packet" => Some(Name::Packet),
-        _ => None,
+impl FromStr for Name {
+    type Err = LineFault;
+
+    ghost from_str_gives = { Named };
+
+    fn from_str(text: &str) -> Result<Name, LineFault> {
+        Ok(match text {
+            "scale" => Name::Field(Field::Scale),
+            "ours" => Name::Field(Field::Ours),
+            "target" => Name::Field(Field::Target),
+            "sender" => Name::Field(Field::Sender),
+            "radius" => Name::Field(Field::Radius),
+            "held" => Name::Field(Field::Held),
+            "room" => Name::Field(Field::Room),
+            "times" => Name::Field(Field::Times),
+            "station" => Name::Station,
+            "packet" => Name::Packet,
+            _ => return Err(LineFault::NotUnderstood),
+        })
     }
 }

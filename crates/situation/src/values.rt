@@ -1,14 +1,14 @@
-// Positions and stations, with commas between their parts.
+// Positions and stations, with commas between their parts. By functions: the types are of other crates.
 ghost use Rattle.std.specs.Prelude.{◌≡◌};
 ghost use Rattle.situation.specs.Values.{position_in, station_in, station_from};
 
-use crate::halves::around_comma;
+use crate::halves::halves;
 use fields::address::Address;
 use fields::position::Position;
 use hex_digits::number::u64_of;
 use location_table::entry::Entry;
 use location_table::numbers::RecentNumbers;
-use request::numbers::{flag_in, i32_in};
+use request::numbers::{flag_in, number_in};
 use times::timestamp::Timestamp;
 use vectors::short::ShortPositionVector;
 
@@ -16,10 +16,10 @@ use vectors::short::ShortPositionVector;
 pub fn position_in(text: &str) -> Option<Position>
     ensures { result ≡ position_in text.now }
 {
-    let (latitude, longitude) = around_comma(text)?;
+    let (latitude, longitude) = halves(text, ',')?;
     Some(Position {
-        latitude: i32_in(latitude)?,
-        longitude: i32_in(longitude)?,
+        latitude: number_in(latitude)?,
+        longitude: number_in(longitude)?,
     })
 }
 
@@ -27,15 +27,15 @@ pub fn position_in(text: &str) -> Option<Position>
 pub fn station_in(text: &str) -> Option<Entry>
     ensures { result ≡ station_in text.now }
 {
-    let (address, place) = around_comma(text)?;
-    let (latitude, behind) = around_comma(place)?;
-    let (longitude, mark) = around_comma(behind)?;
+    let (address, place) = halves(text, ',')?;
+    let (latitude, behind) = halves(place, ',')?;
+    let (longitude, mark) = halves(behind, ',')?;
     let address = Address {
         value: u64_of(address.as_bytes())?,
     };
     let position = Position {
-        latitude: i32_in(latitude)?,
-        longitude: i32_in(longitude)?,
+        latitude: number_in(latitude)?,
+        longitude: number_in(longitude)?,
     };
     Some(station(address, position, flag_in(mark)?))
 }
@@ -47,14 +47,11 @@ fn station(address: Address, position: Position, neighbour: bool) -> Entry
     Entry {
         vector: ShortPositionVector {
             address,
-            timestamp: Timestamp { millis: 0 },
+            timestamp: Timestamp::default(),
             position,
         },
         heard: 0,
         neighbour,
-        numbers: RecentNumbers {
-            values: [0; 8],
-            count: 0,
-        },
+        numbers: RecentNumbers::default(),
     }
 }

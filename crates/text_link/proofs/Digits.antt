@@ -1,7 +1,6 @@
 -- Digits written, and read back. Assumes nothing.
-use Rattle.std.proofs.Common.{◌≡◌, ℕ, ◌+◌, ◌*◌, ◌/◌, ◌%◌, ◌<◌, ◌≤◌, false, eqb, List, [], ◌∷◌, ◌++◌, length, get_or, drop, sym, refl, ap, ◌∙◌, append_assoc, append-nil, arith}
+use Rattle.std.proofs.Common.{◌≡◌, ℕ, ◌+◌, ◌*◌, ◌/◌, ◌%◌, ◌<◌, false, eqb, List, [], ◌∷◌, length, refl, ap, ◌∙◌, arith}
 use Rattle.std.specs.List.{AllByRecursion}
-use Rattle.std.proofs.lemmas.List.{at_drop_more, at_drop_all}
 use Rattle.std.proofs.lemmas.Bool.Decides.{nat_tests}
 use Rattle.text_link.specs.Texts.{digit, digits, digit_value, octets_in}
 
@@ -33,10 +32,3 @@ digit_clean n = grind (arith, nat_tests)
 pub digits_clean : (xs : List ℕ) → Clean (digits xs)
 digits_clean [] = tt
 digits_clean (x ∷ xs) = (digit_clean (x / 16), (digit_clean (x % 16), digits_clean xs))
-
--- a step of the loop that writes digits, and its end
-pub digits_more : (text xs : List ℕ) (i : ℕ) → i < length xs → ((text ++ digit (get_or xs i 0 / 16) ∷ []) ++ digit (get_or xs i 0 % 16) ∷ []) ++ digits (drop (i + 1) xs) ≡ text ++ digits (drop i xs)
-digits_more text xs i h = simp append_assoc (sym (at_drop_more (λ r. text ++ digits r) xs i 0 h))
-
-pub digits_all : (text xs : List ℕ) (i : ℕ) → length xs ≤ i → text ++ digits (drop i xs) ≡ text
-digits_all text xs i h = at_drop_all (λ r. text ++ digits r) xs i h ∙ append-nil text

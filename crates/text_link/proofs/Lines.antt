@@ -1,16 +1,13 @@
 -- A line more is a frame more. Assumes nothing.
 use Rattle.std.proofs.Common.{◌≡◌, ℕ, eqb, List, [], ◌∷◌, ◌++◌, map, length, take, drop, sym, refl, ap, ◌∙◌, append_assoc, append-nil, arith, length-append, take_at, drop_at}
+use Rattle.std.proofs.ByRecursion.{All-append}
 use Rattle.std.proofs.lemmas.Bool.{cond-false}
 use Rattle.link.specs.Frames.{Frame, frame}
 use Rattle.text_link.specs.Texts.{digits, row_of, line_of, lines, octets_in, frame_in, rows, decoded}
 use Rattle.text_link.proofs.Digits.{Octets, Clean, length_digits, octets_digits, digits_clean}
 
-clean_append : (xs ys : List ℕ) → Clean xs → Clean ys → Clean (xs ++ ys)
-clean_append [] ys h k = k
-clean_append (x ∷ xs) ys h k = (h.0, clean_append xs ys h.1 k)
-
 row_clean : (f : Frame) → Clean (row_of f)
-row_clean f = clean_append (digits f.to.octets) (44 ∷ digits f.packet) (digits_clean f.to.octets) (refl, digits_clean f.packet)
+row_clean f = All-append _ (digits f.to.octets) (44 ∷ digits f.packet) (digits_clean f.to.octets) (refl, digits_clean f.packet)
 
 -- a row is read up to its line feed, and then the next begins
 rows_row : (begun row rest : List ℕ) → Clean row → rows begun (row ++ 10 ∷ rest) ≡ (begun ++ row) ∷ rows [] rest
@@ -28,14 +25,6 @@ decoded-lines (f ∷ fs) rest =
     ∙ decoded_line f (lines fs ++ rest)
     ∙ ap (λ (gs : List Frame). frame_in (row_of f) ∷ gs) (decoded-lines fs rest)
     ∙ ap (λ (gs : List Frame). gs ++ decoded rest) (sym (decoded_line f (lines fs)))
-
-lines_push : (fs : List Frame) (f : Frame) → lines (fs ++ f ∷ []) ≡ lines fs ++ line_of f
-lines_push [] f = append-nil (line_of f)
-lines_push (g ∷ fs) f = ap (λ (l : List ℕ). line_of g ++ l) (lines_push fs f) ∙ sym (append_assoc (line_of g) (lines fs) (line_of f))
-
--- what is written piece by piece
-pub line_written : (text : List ℕ) (f : Frame) → (((text ++ digits f.to.octets) ++ 44 ∷ []) ++ digits f.packet) ++ 10 ∷ [] ≡ text ++ line_of f
-line_written text f = simp append_assoc
 
 module _ (f : Frame) (six : length f.to.octets ≡ 6) (address : Octets f.to.octets) (packet : Octets f.packet) where
   -- a row says the frame that it was written for
@@ -59,7 +48,3 @@ module _ (f : Frame) (six : length f.to.octets ≡ 6) (address : Octets f.to.oct
       ∙ decoded-lines (decoded text) (line_of f)
       ∙ ap (λ (l : List ℕ). decoded l ++ decoded (line_of f)) exact
       ∙ ap (λ (gs : List Frame). decoded text ++ gs) decoded-one
-
--- a text that was exact is exact with one line more
-pub exact_push : (text after : List ℕ) (f : Frame) → lines (decoded text) ≡ text → after ≡ text ++ line_of f → decoded after ≡ decoded text ++ f ∷ [] → lines (decoded after) ≡ after
-exact_push text after f exact e d = ap lines d ∙ lines_push (decoded text) f ∙ ap (λ (l : List ℕ). l ++ line_of f) exact ∙ sym e

@@ -1,15 +1,24 @@
 -- Frames as lines of text, written and read. Assumes nothing.
 use Rattle.std.specs.Prelude.{ℕ, ◌+◌, ◌-◌, ◌*◌, ◌/◌, ◌%◌, cond, List, [], ◌∷◌, ◌++◌, map, take, drop, ◌==◌, nat_lt}
+use Rattle.std.specs.List.{flat_map}
 use Rattle.link.specs.Frames.{Frame, frame}
+
+-- a text, and the limit of its length
+pub record LimitedText : Type 0 where
+  pub text : List ℕ
+  pub limit : ℕ
 
 -- the lower-case hexadecimal digit of a number below 16
 abbrev pub digit : ℕ → ℕ
 digit n = cond (nat_lt n 10) (48 + n) (87 + n)
 
+-- the two digits of an octet, the higher one first
+abbrev pub pair : ℕ → List ℕ
+pair x = digit (x / 16) ∷ digit (x % 16) ∷ []
+
 -- two digits for each octet
 abbrev pub digits : List ℕ → List ℕ
-digits [] = []
-digits (x ∷ xs) = digit (x / 16) ∷ digit (x % 16) ∷ digits xs
+digits octets = flat_map pair octets
 
 -- the digits of the link address, a comma, and the digits of the packet
 abbrev pub row_of : Frame → List ℕ
@@ -21,8 +30,7 @@ line_of f = row_of f ++ 10 ∷ []
 
 -- the lines of frames, one after another
 abbrev pub lines : List Frame → List ℕ
-lines [] = []
-lines (f ∷ fs) = line_of f ++ lines fs
+lines fs = flat_map line_of fs
 
 -- the number that a digit stands for
 abbrev pub digit_value : ℕ → ℕ

@@ -8,7 +8,7 @@ use link::address::LinkAddress;
 // The octets of a line besides the digits of the packet: the digits of the address, the comma and the line feed.
 pub(crate) const LINE_OVERHEAD: usize = 14;
 
-// A lower-case hexadecimal digit.
+// A lower-case hexadecimal digit. By hand: char::from_digit answers an Option of a char, to be unwrapped and cast.
 fn digit_of(n: u8) -> u8
     requires { n < 16 }
     ensures { result ≡ digit n }
@@ -16,7 +16,7 @@ fn digit_of(n: u8) -> u8
     if n < 10 { b'0' + n } else { b'a' + (n - 10) }
 }
 
-// Writes two digits for each octet.
+// Writes two digits for each octet. Not by Hex of hex_digits: a format may fail where memory is short, and this never does.
 pub(crate) fn put_hex(text: &mut Vec<u8>, octets: &[u8])
     requires { vec_len text.old + 2 * length octets.now ≤ vec_capacity text.old }
     ensures items { text.new.items ≡ text.old.items ++ digits octets.now }

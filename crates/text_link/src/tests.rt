@@ -20,7 +20,7 @@ fn a_frame_is_a_line(rt: HostRuntime) -> Result<(), Fail> {
 #[test]
 fn a_line_has_to_fit(rt: HostRuntime) -> Result<(), Fail> {
     let mut link = TextLink::new(rt.alloc(), 19)?;
-    assert_eq!(rt; link.send(STATION, b"\xc0\xff\xee"), Err(NoSpace {}));
+    assert_eq!(rt; link.send(STATION, b"\xc0\xff\xee"), Err(NoSpace));
     assert_eq!(rt; link.text(), b"".as_slice());
     Ok(())
 }

@@ -1,15 +1,23 @@
 // A line for each frame, in a buffer that is reserved when the link is made.
-ghost use Rattle.std.specs.Prelude.{◌≡◌, ◌≤◌, vec_len, vec_capacity};
-ghost use Rattle.text_link.specs.Texts.{lines, decoded};
+use std::marker::Model;
 
 pub mod methods;
 pub mod sending;
 
+// In clauses a link is its text, and the limit of its length. The text is always the lines of the frames that it says.
 #[derive(Drop)]
 pub struct TextLink {
     text: Vec<u8>,
     limit: usize,
-    ghost within: { vec_len text ≤ limit },
-    ghost reserved: { limit ≤ vec_capacity text },
-    ghost exact: { lines (decoded text.items) ≡ text.items },
+}
+
+impl Model for TextLink {
+    ghost use Rattle.std.specs.Prelude.{◌≡◌, ◌≤◌, vec_len, vec_capacity};
+    ghost use Rattle.text_link.specs.Texts.{LimitedText, lines, decoded};
+
+    ghost Value = { LimitedText };
+
+    ghost view = { λ t. record { text = t.text.items; limit = t.limit } };
+
+    ghost invariant = { λ t. (vec_len t.text ≤ t.limit) × (t.limit ≤ vec_capacity t.text) × (lines (decoded t.text.items) ≡ t.text.items) };
 }

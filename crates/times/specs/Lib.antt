@@ -1,2 +1,3 @@
 pub mod Lifetimes
 pub mod Timestamps
+pub mod Units

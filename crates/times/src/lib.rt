@@ -3,3 +3,4 @@
 
 pub mod lifetime;
 pub mod timestamp;
+pub mod unit;

@@ -1,7 +1,9 @@
 -- Position vectors and areas: what their octets say, and the octets that say it. Assumes nothing.
-use Rattle.std.specs.Prelude.{ℕ, ◌+◌, List, ◌++◌, Ok, Result}
+use Rattle.std.specs.Prelude.{◌≡◌, ℕ, ◌+◌, ◌^◌, ◌<◌, List, ◌++◌, length, Ok, Result, refl}
+use Rattle.std.proofs.Common.{length-append}
 use Rattle.octets.specs.Faults.{and_then, read_at}
 use Rattle.octets.specs.Wire.{octets_of}
+use Rattle.octets.specs.Widths.{length-octets_of}
 use Rattle.octets.specs.declared.fault.OctetFault.{OctetFault}
 use Rattle.fields.specs.Positions.{position_at, position_octets}
 use Rattle.vectors.specs.declared.area.Area.{Area}
@@ -41,3 +43,28 @@ area_at at o =
 
 abbrev pub area_octets : Area → List ℕ
 area_octets a = position_octets a.centre ++ octets_of 2 a.radius ++ octets_of 2 a.distance_b ++ octets_of 2 a.angle ++ octets_of 2 0
+
+-- how many octets they are
+pub length-short_vector_octets : (v : ShortPositionVector) → length (short_vector_octets v) ≡ 20
+length-short_vector_octets v = simp (length-append, length-octets_of) refl
+
+pub length-long_vector_octets : (v : LongPositionVector) → length (long_vector_octets v) ≡ 24
+length-long_vector_octets v = simp (length-append, length-octets_of) refl
+
+pub length-area_octets : (a : Area) → length (area_octets a) ≡ 16
+length-area_octets a = simp (length-append, length-octets_of) refl
+
+-- the numbers in a record fit the integers that hold them, as those of every value of the program do
+pub record ShortFits (v : ShortPositionVector) : Type 0 where
+  pub address : v.address.value < 256 ^ 8
+  pub timestamp : v.timestamp.millis < 256 ^ 4
+
+pub record LongFits (v : LongPositionVector) : Type 0 where
+  pub short : ShortFits v.short
+  pub motion : v.motion.bits < 256 ^ 2
+  pub heading : v.heading < 256 ^ 2
+
+pub record CircleFits (a : Area) : Type 0 where
+  pub radius : a.radius < 256 ^ 2
+  pub distance : a.distance_b < 256 ^ 2
+  pub angle : a.angle < 256 ^ 2

@@ -1,70 +1,58 @@
 // Making a queue, and what the radio does with it.
-ghost use Rattle.std.specs.Prelude.{◌≡◌, ◌≤◌, [], length, drop, IfOk, vec_len, vec_capacity};
+ghost use Rattle.std.specs.Prelude.{All, ◌≡◌, ◌≤◌, [], length, drop, slice_get, IfSome, IfOk};
 ghost use Rattle.std.specs.Option.{option_map};
-ghost use Rattle.radio_queue.specs.Queues.{waiting, viewed, first_of, head_of, first_over};
+ghost use Rattle.radio_queue.specs.Shorts.{IsShort};
+ghost use Rattle.radio_queue.specs.Queues.{viewed, head_of, first_over};
 
 use crate::frame::{FrameView, Head};
 use crate::queue::{FRAMES, OCTETS, RadioQueue};
 use std::alloc::{AllocError, Global};
+use std::collections::VecDeque;
 
 impl RadioQueue {
     // No frames, and storage for as many as can ever wait.
     pub fn new(heap: Global) -> Result<RadioQueue, AllocError>
-        ensures { IfOk result (λ q. waiting q ≡ []) }
+        ensures { IfOk result (λ q. q ≡ []) }
     {
-        let heads = Vec::with_capacity(heap, FRAMES)?;
-        let octets = Vec::with_capacity(heap, FRAMES * OCTETS)?;
-        Ok(RadioQueue { heads, octets })
+        let frames = VecDeque::with_capacity(heap, FRAMES)?;
+        Ok(RadioQueue { frames })
     }
 
     // How many frames wait.
     pub fn len(&self) -> usize
-        ensures { result ≡ length (waiting self.now) }
+        ensures value { result ≡ length self.now }
+        ensures few { result ≤ 8 }
+        ensures short { All IsShort self.now }
     {
-        self.heads.len()
+        self.frames.len()
     }
 
     // The frame that has waited longest.
     pub fn first(&self) -> Option<FrameView<'_>>
-        ensures { option_map viewed result ≡ first_of (waiting self.now) }
+        ensures value { option_map viewed result ≡ slice_get self.now 0 }
+        ensures short { IfSome result (λ v. length v.packet.now ≤ 1458) }
     {
-        if self.heads.is_empty() {
-            return None;
-        }
-        let head = self.heads[0];
-        let count = head.count;
-        let packet = &self.octets.as_slice()[0..count];
+        let frame = self.frames.front()?;
         Some(FrameView {
-            to: head.to,
-            packet,
+            to: frame.to,
+            packet: frame.packet.as_slice(),
         })
     }
 
-    // Takes that frame off, and writes its packet to the front of `out`.
+    // Takes that frame off, and writes its packet to the front of `out`: an array of the caller's, the rest of which stays.
     pub fn take_first(&mut self, out: &mut [u8; OCTETS]) -> Option<Head>
-        ensures value { result ≡ option_map head_of (first_of (waiting self.old)) }
-        ensures frames { waiting self.new ≡ drop 1 (waiting self.old) }
-        ensures packet { out.new ≡ first_over (waiting self.old) out.old }
-        ensures same { waiting self.old ≡ [] → self.new ≡ self.old }
+        ensures value { result ≡ option_map head_of (slice_get self.old 0) }
+        ensures frames { self.new ≡ drop 1 self.old }
+        ensures packet { out.new ≡ first_over self.old out.old }
+        ensures short { IfSome result (λ h. h.count ≤ 1458) }
+        ensures same { self.old ≡ [] → self.new ≡ self.old }
     {
-        if self.heads.is_empty() {
-            return None;
-        }
-        let head = self.heads.remove(0);
-        let count = head.count;
-        out[0..count].copy_from_slice(&self.octets.as_slice()[0..count]);
-        remove_front(&mut self.octets, count);
-        Some(head)
+        let frame = self.frames.pop_front()?;
+        let count = frame.packet.len();
+        out[..count].copy_from_slice(frame.packet.as_slice());
+        Some(Head {
+            to: frame.to,
+            count,
+        })
     }
-}
-
-// Removes the first `count` octets.
-fn remove_front(octets: &mut Vec<u8>, count: usize)
-    requires { count ≤ vec_len octets.old }
-    ensures items { octets.new.items ≡ drop count octets.old.items }
-    ensures capacity { vec_capacity octets.new ≡ vec_capacity octets.old }
-{
-    let left = octets.len() - count;
-    octets.rotate_left(count);
-    octets.truncate(left);
 }

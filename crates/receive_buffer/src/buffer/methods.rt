@@ -23,6 +23,7 @@ impl ReceiveBuffer {
     }
 
     // Holds these octets in place of the old ones. More than fit are refused, and the buffer stays as it was.
+    #[tactic(auto, unfolding(octets::specs::Wire::placed))]
     pub fn fill(&mut self, octets: &[u8]) -> Result<(), HeaderFault>
         ensures value { result ≡ filling octets.now }
         ensures after { received self.new ≡ (if is_ok result then octets.now else received self.old) }

@@ -1,6 +1,6 @@
 // Making a link, and reading its text.
-ghost use Rattle.std.specs.Prelude.{◌≡◌, [], IfOk};
-ghost use Rattle.text_link.specs.TextLinks.{text_of, frames_of};
+ghost use Rattle.std.specs.Prelude.{◌≡◌, ◌≤◌, [], length, IfOk};
+ghost use Rattle.text_link.specs.TextLinks.{frames_of};
 ghost use Rattle.text_link.specs.Texts.{lines};
 
 use crate::text::TextLink;
@@ -9,7 +9,7 @@ use std::alloc::{AllocError, Global};
 impl TextLink {
     // No text, and a buffer for `limit` octets of it.
     pub fn new(heap: Global, limit: usize) -> Result<TextLink, AllocError>
-        ensures { IfOk result (λ t. (text_of t ≡ []) × (t.limit ≡ limit)) }
+        ensures { IfOk result (λ t. (t.text ≡ []) × (t.limit ≡ limit)) }
     {
         let text = Vec::with_capacity(heap, limit)?;
         Ok(TextLink { text, limit })
@@ -17,7 +17,8 @@ impl TextLink {
 
     // The lines of the frames, one after another, and nothing else.
     pub fn text(&self) -> &[u8]
-        ensures value { result.now ≡ text_of self.now }
+        ensures value { result.now ≡ self.now.text }
+        ensures within { length result.now ≤ self.now.limit }
         ensures lines { result.now ≡ lines (frames_of self.now) }
     {
         self.text.as_slice()

@@ -1,7 +1,7 @@
 // The text as a link.
-ghost use Rattle.std.specs.Prelude.{◌≡◌, true, false, [], ◌∷◌, ◌++◌, length, if◌then◌else◌};
+ghost use Rattle.std.specs.Prelude.{◌≡◌, false, ◌++◌, length, if◌then◌else◌};
 ghost use Rattle.link.specs.Frames.{frame, sent, joined};
-ghost use Rattle.text_link.specs.TextLinks.{text_of, frames_of, has_space};
+ghost use Rattle.text_link.specs.TextLinks.{frames_of, has_space};
 ghost use Rattle.text_link.specs.Texts.{line_of};
 
 use crate::line::{LINE_OVERHEAD, put_line};
@@ -20,29 +20,18 @@ impl Link for TextLink {
         LINE_OVERHEAD <= free && count <= (free - LINE_OVERHEAD) / 2
     }
 
+    // The line takes no memory that is not there.
     fn send(&mut self, to: LinkAddress, packet: &[u8]) -> Result<(), NoSpace>
         ensures value { result ≡ sent (has_space self.old (length packet.now)) }
         ensures frames { frames_of self.new ≡ joined (has_space self.old (length packet.now)) (frame to packet.now) (frames_of self.old) }
-        ensures text { text_of self.new ≡ (if has_space self.old (length packet.now) then text_of self.old ++ line_of (frame to packet.now) else text_of self.old) }
+        ensures text { self.new.text ≡ (if has_space self.old (length packet.now) then self.old.text ++ line_of (frame to packet.now) else self.old.text) }
         ensures limit { self.new.limit ≡ self.old.limit }
         ensures same { has_space self.old (length packet.now) ≡ false → self.new ≡ self.old }
     {
         if !self.has_space(packet.len()) {
-            return Err(NoSpace {});
+            return Err(NoSpace);
         }
-        self.put_last(to, packet);
-        Ok(())
-    }
-}
-
-impl TextLink {
-    // Writes the line of a frame behind all others. It takes no memory that is not there.
-    fn put_last(&mut self, to: LinkAddress, packet: &[u8])
-        requires { has_space self.old (length packet.now) ≡ true }
-        ensures frames { frames_of self.new ≡ frames_of self.old ++ frame to packet.now ∷ [] }
-        ensures text { text_of self.new ≡ text_of self.old ++ line_of (frame to packet.now) }
-        ensures limit { self.new.limit ≡ self.old.limit }
-    {
         put_line(&mut self.text, to, packet);
+        Ok(())
     }
 }

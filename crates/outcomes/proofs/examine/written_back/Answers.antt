@@ -5,8 +5,8 @@ use Rattle.outcomes.proofs.Back.{written_back, not_read}
 use Rattle.outcomes.proofs.examine.written_back.Goals as goal
 use Rattle.std.proofs.lemmas.Bool.Decides.{Decides-eqb}
 
-pub returns-in-Ok : goal.returns-in-Ok
-returns-in-Ok c = written_back c.args.octets.now _ _ _ c.in-Ok.count c.eq.result c.in-Ok.ensures (ap (λ k. take k c.rewrite.new.buffer) (sub-zero c.in-Ok.count)) (slice_eq-Decides Decides-eqb _ _ _ c.eq.ensures)
+pub returns : goal.returns
+returns c = written_back c.args.octets.now _ _ _ c.in-Ok.count c.eq.result c.in-Ok.ensures (ap (λ k. take k c.rewrite.new.buffer) (sub-zero c.in-Ok.count)) (slice_eq-Decides Decides-eqb _ _ _ c.eq.ensures)
 
-pub returns-in-Err : goal.returns-in-Err
-returns-in-Err c = not_read c.args.octets.now c.in-Err.field-0 c.in-Err.ensures.0
+pub returns-in_default : goal.returns-in_default
+returns-in_default c = not_read c.args.octets.now c.in_default.field-0 c.in_default.ensures.0

@@ -1,6 +1,0 @@
-use Rattle.std.proofs.Common.{◌∙◌}
-use Rattle.request.proofs.Parsed.{unsigned_read}
-use Rattle.request.proofs.numbers.u8_in.Goals as goal
-
-pub returns : goal.returns
-returns c = c.ok.ensures.value ∙ unsigned_read 8 c.args.text.now _ c.parse.ensures.value.0

@@ -9,6 +9,7 @@ ghost use Rattle.forwarding.specs.Verdicts.{judged, frames_of, Nearer, Untouched
 use crate::carried::Carried;
 use crate::course::Course;
 use crate::verdict::Verdict;
+use arrayvec::ArrayVec;
 use ground::Ground;
 use link::Link;
 use link::address::BROADCAST;
@@ -33,7 +34,8 @@ impl<G: Ground, P: Policy> Forwarder<'_, G, P> {
     {
         let ours = self.ground.distance(course.ours, course.target);
         let sender = course.sender_distance(self.ground);
-        let near = self.table.distances(course.target, self.ground);
+        let mut near = ArrayVec::new();
+        self.table.measure(course.target, self.ground, &mut near);
         self.policy.choose(ours, sender, near.as_slice())
     }
 

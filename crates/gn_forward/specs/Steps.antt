@@ -29,7 +29,7 @@ pub record Stepped (said : Choice) (s : Situation) (space : Bool) (before after 
 
 -- a step on each link
 pub record SteppedOnBoth (said : Choice) (s : Situation) (before after : Links) (v : LinkVerdicts) : Type 0 where
-  pub queue : Stepped said s (radio.has_space before.queue (length (vec_items s.packet))) before.queue after.queue v.queue
+  pub queue : Stepped said s (radio.has_space before.queue (length (vec_items s.packet))) before.queue.frames after.queue.frames v.queue
   pub text : Stepped said s (written.has_space before.text (length (vec_items s.packet))) (written.frames_of before.text) (written.frames_of after.text) v.text
 
 -- over a ground: greedy, and then contention

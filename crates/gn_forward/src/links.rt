@@ -14,7 +14,7 @@ pub struct Links {
 impl Links {
     // Both are empty; the text link has a buffer of this size.
     pub fn new(heap: Global, room: u16) -> Result<Links, AllocError>
-        ensures { IfOk result (λ l. (l.queue ≡ []) × (l.text.text ≡ []) × (l.text.limit ≡ room)) }
+        ensures { IfOk result (λ l. (l.queue.frames ≡ []) × (l.text.text ≡ []) × (l.text.limit ≡ room)) }
     {
         let queue = RadioQueue::new(heap)?;
         let text = TextLink::new(heap, usize::from(room))?;

@@ -7,7 +7,7 @@ use Rattle.radio_queue.specs.declared.queue.RadioQueue.{RadioQueue}
 
 -- there is space for a packet while fewer than eight frames wait, if it has at most 1,458 octets
 abbrev pub has_space : RadioQueue → ℕ → Bool
-has_space q n = nat_lt (length q) 8 && nat_le n 1458
+has_space q n = nat_lt (length q.frames) 8 && nat_le n 1458
 
 -- the frame that a view shows
 abbrev pub viewed : FrameView → Frame

@@ -3,10 +3,11 @@ use Rattle.std.specs.Prelude.{ℕ, ◌+◌, ◌-◌, ◌*◌, ◌/◌, ◌%◌, 
 use Rattle.std.specs.List.{flat_map}
 use Rattle.link.specs.Frames.{Frame, frame}
 
--- a text, and the limit of its length
+-- a text, the limit of its length, and for how many octets there is storage
 pub record LimitedText : Type 0 where
   pub text : List ℕ
   pub limit : ℕ
+  pub storage : ℕ
 
 -- the lower-case hexadecimal digit of a number below 16
 abbrev pub digit : ℕ → ℕ

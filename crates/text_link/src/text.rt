@@ -4,7 +4,8 @@ use std::marker::Model;
 pub mod methods;
 pub mod sending;
 
-// In clauses a link is its text, and the limit of its length. The text is always the lines of the frames that it says.
+// In clauses a link is its text, the limit of its length, and for how many octets there is storage. The text is always the
+// lines of the frames that it says.
 #[derive(Drop)]
 pub struct TextLink {
     text: Vec<u8>,
@@ -17,7 +18,7 @@ impl Model for TextLink {
 
     ghost Value = { LimitedText };
 
-    ghost view = { λ t. record { text = t.text.items; limit = t.limit } };
+    ghost view = { λ t. record { text = t.text.items; limit = t.limit; storage = vec_capacity t.text } };
 
     ghost invariant = { λ t. (vec_len t.text ≤ t.limit) × (t.limit ≤ vec_capacity t.text) × (lines (decoded t.text.items) ≡ t.text.items) };
 }

@@ -46,6 +46,7 @@ impl LocationTable {
     pub fn enter(&mut self, entry: Entry) -> Result<(), TableFull>
         ensures value { result ≡ entered (nat_lt (length self.old) 64) }
         ensures after { self.new ≡ entering (nat_lt (length self.old) 64) entry self.old }
+        ensures few { length self.new ≤ 64 }
     {
         if self.entries.len() == STATIONS {
             return Err(TableFull);

@@ -12,7 +12,7 @@ use std::collections::VecDeque;
 impl RadioQueue {
     // No frames, and storage for as many as can ever wait.
     pub fn new(heap: Global) -> Result<RadioQueue, AllocError>
-        ensures { IfOk result (λ q. q ≡ []) }
+        ensures { IfOk result (λ q. q.frames ≡ []) }
     {
         let frames = VecDeque::with_capacity(heap, FRAMES)?;
         Ok(RadioQueue { frames })
@@ -20,16 +20,17 @@ impl RadioQueue {
 
     // How many frames wait.
     pub fn len(&self) -> usize
-        ensures value { result ≡ length self.now }
+        ensures value { result ≡ length self.now.frames }
         ensures few { result ≤ 8 }
-        ensures short { All IsShort self.now }
+        ensures short { All IsShort self.now.frames }
+        ensures reserved { 8 ≤ self.now.storage }
     {
         self.frames.len()
     }
 
     // The frame that has waited longest.
     pub fn first(&self) -> Option<FrameView<'_>>
-        ensures value { option_map viewed result ≡ slice_get self.now 0 }
+        ensures value { option_map viewed result ≡ slice_get self.now.frames 0 }
         ensures short { IfSome result (λ v. length v.packet.now ≤ 1458) }
     {
         let frame = self.frames.front()?;
@@ -41,18 +42,20 @@ impl RadioQueue {
 
     // Takes that frame off, and writes its packet to the front of `out`: an array of the caller's, the rest of which stays.
     pub fn take_first(&mut self, out: &mut [u8; OCTETS]) -> Option<Head>
-        ensures value { result ≡ option_map head_of (slice_get self.old 0) }
-        ensures frames { self.new ≡ drop 1 self.old }
-        ensures packet { out.new ≡ first_over self.old out.old }
+        ensures value { result ≡ option_map head_of (slice_get self.old.frames 0) }
+        ensures frames { self.new.frames ≡ drop 1 self.old.frames }
+        ensures packet { out.new ≡ first_over self.old.frames out.old }
+        ensures few { length self.new.frames ≤ 8 }
+        ensures others { All IsShort self.new.frames }
         ensures short { IfSome result (λ h. h.count ≤ 1458) }
-        ensures same { self.old ≡ [] → self.new ≡ self.old }
+        ensures same { self.old.frames ≡ [] → self.new ≡ self.old }
     {
-        let frame = self.frames.pop_front()?;
-        let count = frame.packet.len();
-        out[..count].copy_from_slice(frame.packet.as_slice());
-        Some(Head {
-            to: frame.to,
-            count,
-        })
+        // It is copied from where it lies: a frame is large to move.
+        let first = self.frames.front()?;
+        let to = first.to;
+        let count = first.packet.len();
+        out[..count].copy_from_slice(first.packet.as_slice());
+        self.frames.pop_front();
+        Some(Head { to, count })
     }
 }

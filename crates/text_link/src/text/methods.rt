@@ -20,6 +20,7 @@ impl TextLink {
         ensures value { result.now ≡ self.now.text }
         ensures within { length result.now ≤ self.now.limit }
         ensures lines { result.now ≡ lines (frames_of self.now) }
+        ensures reserved { self.now.limit ≤ self.now.storage }
     {
         self.text.as_slice()
     }

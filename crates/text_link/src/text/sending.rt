@@ -1,8 +1,8 @@
 // The text as a link.
-ghost use Rattle.std.specs.Prelude.{◌≡◌, false, ◌++◌, length, if◌then◌else◌};
+ghost use Rattle.std.specs.Prelude.{◌≡◌, ◌≤◌, false, ◌++◌, length, if◌then◌else◌};
 ghost use Rattle.link.specs.Frames.{frame, sent, joined};
 ghost use Rattle.text_link.specs.TextLinks.{frames_of, has_space};
-ghost use Rattle.text_link.specs.Texts.{line_of};
+ghost use Rattle.text_link.specs.Texts.{line_of, lines};
 
 use crate::line::{LINE_OVERHEAD, put_line};
 use crate::text::TextLink;
@@ -26,6 +26,8 @@ impl Link for TextLink {
         ensures frames { frames_of self.new ≡ joined (has_space self.old (length packet.now)) (frame to packet.now) (frames_of self.old) }
         ensures text { self.new.text ≡ (if has_space self.old (length packet.now) then self.old.text ++ line_of (frame to packet.now) else self.old.text) }
         ensures limit { self.new.limit ≡ self.old.limit }
+        ensures within { length self.new.text ≤ self.new.limit }
+        ensures lines { self.new.text ≡ lines (frames_of self.new) }
         ensures same { has_space self.old (length packet.now) ≡ false → self.new ≡ self.old }
     {
         if !self.has_space(packet.len()) {

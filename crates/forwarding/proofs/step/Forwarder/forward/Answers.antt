@@ -9,5 +9,5 @@ returns-in-Neighbour-clause-nearer g c =
     let span = g.G.Ground.span c.args.self.now.ground.now in
     let course = c.args.carried.now.course in
     went-nearer (λ p. span p course.target) course.ours (sender_distance span course) (stations_in c.args.self.now.table.now)
-    c.in-Neighbour.index c.in-Neighbour.ensures.sound c.unwrap-to.result (sym c.link_address.ensures ∙ c.unwrap-to.ensures)
+    c.in-Neighbour.index c.in-Neighbour.ensures.sound c.unwrap-to.result (sym c.link_address.ensures.value ∙ c.unwrap-to.ensures)
     (g.L.Link.space c.args.link.now (length c.args.carried.now.packet.now)) c.put_out.result c.put_out.ensures.value

@@ -6,8 +6,8 @@ use Rattle.std.proofs.lemmas.Iterator.Consumers.{nth_from_yields_List, YieldsLis
 use Rattle.location_table.proofs.Marked.{nth_address, address_of}
 use Rattle.location_table.proofs.table.LocationTable.link_address.Goals as goal
 
-pub returns : goal.returns
-returns c =
+pub returns-clause-value : goal.returns-clause-value
+returns-clause-value c =
     let table = c.args.self.now in
     let found : option_map (λ e. e.now) c.nth.result ≡ slice_get (filter (λ e. e.neighbour) table) c.args.index =
     nth_from_yields_List c.nth.result c.nth.new.self c.args.index c.nth.ensures.ran

@@ -2,7 +2,7 @@ use Rattle.std.proofs.Common.{◌≡◌, ◌≤◌, take}
 use Rattle.arrayvec.specs.ArrayVec.{array_vec_len}
 use Rattle.location_table.specs.Neighbours.{distances}
 use Rattle.location_table.specs.Stations.{stations_in}
-use Rattle.location_table.proofs.table.LocationTable.distances.Given as goal
+use Rattle.location_table.proofs.table.LocationTable.measure.Given as goal
 
 abbrev pub invariant-loop-entry : goal.invariant-loop-entry
 invariant-loop-entry g l = record {

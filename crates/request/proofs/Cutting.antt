@@ -1,5 +1,5 @@
 -- How a text is cut into words. Assumes nothing.
-use Rattle.std.proofs.Common.{◌≡◌, ℕ, suc, ◌+◌, ◌<◌, ◌≤◌, ◌≢◌, Bool, true, false, cond, not, ltb, List, [], ◌∷◌, ◌++◌, length, take, drop, Some, None, Option, sym, refl, ap, ◌∙◌, arith, length-drop, length-take-le}
+use Rattle.std.proofs.Common.{◌≡◌, ℕ, suc, ◌+◌, ◌-◌, ◌<◌, ◌≤◌, ◌≢◌, Bool, true, false, cond, not, ltb, List, [], ◌∷◌, ◌++◌, length, take, drop, Some, None, Option, sym, refl, ap, ◌∙◌, arith, length-drop, length-take-le}
 use Rattle.std.proofs.lemmas.Bool.{ltb-true, ltb-false}
 use Rattle.std.proofs.lemmas.List.{append_assoc, append-nil, drop_all}
 use Rattle.std.proofs.lemmas.List.Recursion.{is_position_or_len}
@@ -103,8 +103,8 @@ some_octet text h =
     let more : front blank (drop (front dark text) text) ≢ 0 = λ z. let e = none_begins text z in omega (arith, ap length e, length-drop (front dark text) text) in
     omega arith
 
--- the first word, from its two ends
-pub first_word : (text begun word rest : List ℕ) (start : ℕ) (end : Option ℕ) → Some start ≡ position dark text → begun ≡ drop start text → end ≡ position blank begun → word ≡ take (unwrap_or end (length begun)) begun → rest ≡ drop (unwrap_or end (length begun)) begun → words_of text ≡ word ∷ words_of rest
+-- the first word, from its two ends, and that less of the text is left
+pub first_word : (text begun word rest : List ℕ) (start : ℕ) (end : Option ℕ) → Some start ≡ position dark text → begun ≡ drop start text → end ≡ position blank begun → word ≡ take (unwrap_or end (length begun)) begun → rest ≡ drop (unwrap_or end (length begun)) begun → (words_of text ≡ word ∷ words_of rest) × (length rest < length text)
 first_word text begun word rest start end s b e w r =
     let here = found dark text start s in
     let behind : begun ≡ drop (front dark text) text = b ∙ ap (λ k. drop k text) here.0 in
@@ -113,4 +113,5 @@ first_word text begun word rest start end s b e w r =
     let cut : words_of begun ≡ ended word (words_of rest) = words_cut begun [] ∙ rw (w, r, count) refl in
     let long : length word ≡ front blank begun = ap length (w ∙ ap (λ n. take n begun) count) ∙ length-take-le _ _ (front_within blank begun) in
     let some : 0 < front blank begun = rw behind (some_octet text (omega arith)) in
-    skip ∙ cut ∙ ended_some word (words_of rest) (omega arith)
+    let left : length rest ≡ length begun - front blank begun = ap length (r ∙ ap (λ n. drop n begun) count) ∙ length-drop _ _ in
+    (skip ∙ cut ∙ ended_some word (words_of rest) (omega arith), omega (arith, left, ap length behind, length-drop (front dark text) text, front_within blank begun))

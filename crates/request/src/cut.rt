@@ -1,5 +1,5 @@
 // A text cut into words, at spaces and tabs.
-ghost use Rattle.std.specs.Prelude.{◌≡◌, not, position};
+ghost use Rattle.std.specs.Prelude.{◌≡◌, ◌<◌, not, length, position, IfSome};
 ghost use Rattle.std.specs.Iterator.{YieldsFirstRef, item_count};
 ghost use Rattle.hex_digits.specs.Hex.{blank};
 ghost use Rattle.request.specs.Cuts.{words_of};
@@ -7,13 +7,13 @@ ghost use Rattle.request.specs.Cuts.{words_of};
 use hex_digits::decode::is_blank;
 
 // The words of a text, one after another.
-#[derive(Drop)]
+#[derive(Clone, Copy)]
 pub struct Words<'a>(pub &'a [u8]);
 
 impl<'a> Iterator for Words<'a> {
     type Item = &'a [u8];
 
-    ghost next_gives = { YieldsFirstRef (λ s. words_of s.0.now) };
+    ghost next_gives = { λ text word rest. YieldsFirstRef (λ s. words_of s.0.now) text word rest × IfSome word (λ _. length rest.0.now < length text.0.now) };
 
     ghost remaining = { item_count (λ s. words_of s.0.now) };
 

@@ -2,6 +2,7 @@
 #![tactic(auto)]
 
 pub mod asked;
+pub mod blank;
 pub mod cut;
 pub mod fault;
 pub mod fill;

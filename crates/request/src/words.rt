@@ -3,7 +3,8 @@ ghost use Rattle.std.specs.Prelude.{◌≡◌, []};
 ghost use Rattle.request.specs.Asked.{no_fields};
 ghost use Rattle.request.specs.Words.{AnswersSet, AnswersPayload, AnswersField};
 
-use crate::asked::{Fields, Request};
+use crate::asked::Request;
+use crate::blank::no_fields;
 use crate::fault::LineFault;
 use crate::names::Field;
 use crate::take::SetByName;
@@ -20,7 +21,7 @@ impl Request {
     {
         Request {
             kind,
-            fields: Fields::default(),
+            fields: no_fields(),
             payload: Vec::new(heap),
         }
     }

@@ -1,4 +1,6 @@
 // The east scale: ten-thousandths of a decimetre in a tenth of a microdegree of longitude, at most the equator's.
+pub mod checked;
+
 ghost use Rattle.std.specs.Prelude.{◌≡◌, ◌<◌, ◌≤◌, MatchResult};
 ghost use Rattle.ground.specs.declared.fault.GroundFault.TheVariants.{ScaleTooLarge};
 
@@ -14,7 +16,7 @@ pub struct EastScale {
 // The equator's scale, and that of every way north.
 pub const EQUATOR: EastScale = EastScale { value: LARGEST };
 
-const LARGEST: u16 = 1_113;
+const LARGEST: u16 = checked::EQUATOR;
 
 // Refuses a number above 1,113.
 impl TryFrom<u16> for EastScale {

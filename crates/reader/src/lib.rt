@@ -3,5 +3,5 @@
 
 pub mod checks;
 mod framed;
-mod headers;
+pub mod headers;
 pub mod read;

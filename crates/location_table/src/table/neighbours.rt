@@ -16,6 +16,7 @@ impl LocationTable {
     pub fn distances<G: Ground>(&self, target: Position, ground: &G) -> ArrayVec<u32, STATIONS>
         ensures items { result.items ≡ distances (λ p. G.span ground.now p target) (stations_in self.now) }
         ensures few { array_vec_len result ≤ 64 }
+        ensures stations { length self.now ≤ 64 }
     {
         let mut near = ArrayVec::new();
         self.measure(target, ground, &mut near);
@@ -32,6 +33,7 @@ impl LocationTable {
     )
         ensures items { near.new.items ≡ distances (λ p. G.span ground.now p target) (stations_in self.now) }
         ensures few { array_vec_len near.new ≤ 64 }
+        ensures stations { length self.now ≤ 64 }
     {
         // A loop, and no collect: that one answers that there may be no room.
         near.clear();

@@ -12,7 +12,8 @@ use std::collections::VecDeque;
 impl RadioQueue {
     // No frames, and storage for as many as can ever wait.
     pub fn new(heap: Global) -> Result<RadioQueue, AllocError>
-        ensures { IfOk result (λ q. q.frames ≡ []) }
+        ensures empty { IfOk result (λ q. q.frames ≡ []) }
+        ensures reserved { IfOk result (λ q. 8 ≤ q.storage) }
     {
         let frames = VecDeque::with_capacity(heap, FRAMES)?;
         Ok(RadioQueue { frames })
@@ -32,6 +33,9 @@ impl RadioQueue {
     pub fn first(&self) -> Option<FrameView<'_>>
         ensures value { option_map viewed result ≡ slice_get self.now.frames 0 }
         ensures short { IfSome result (λ v. length v.packet.now ≤ 1458) }
+        ensures few { length self.now.frames ≤ 8 }
+        ensures others { All IsShort self.now.frames }
+        ensures reserved { 8 ≤ self.now.storage }
     {
         let frame = self.frames.front()?;
         Some(FrameView {
@@ -47,6 +51,7 @@ impl RadioQueue {
         ensures packet { out.new ≡ first_over self.old.frames out.old }
         ensures few { length self.new.frames ≤ 8 }
         ensures others { All IsShort self.new.frames }
+        ensures reserved { 8 ≤ self.new.storage }
         ensures short { IfSome result (λ h. h.count ≤ 1458) }
         ensures same { self.old.frames ≡ [] → self.new ≡ self.old }
     {

@@ -19,6 +19,8 @@ impl Link for RadioQueue {
     fn has_space(&self, count: usize) -> bool
         ensures value { result ≡ has_space self.now count }
         ensures few { length self.now.frames ≤ 8 }
+        ensures short { All IsShort self.now.frames }
+        ensures reserved { 8 ≤ self.now.storage }
     {
         self.len() < FRAMES && count <= OCTETS
     }
@@ -29,6 +31,7 @@ impl Link for RadioQueue {
         ensures frames { self.new.frames ≡ joined (has_space self.old (length packet.now)) (frame to packet.now) self.old.frames }
         ensures few { length self.new.frames ≤ 8 }
         ensures short { All IsShort self.new.frames }
+        ensures reserved { 8 ≤ self.new.storage }
         ensures same { has_space self.old (length packet.now) ≡ false → self.new ≡ self.old }
     {
         if !self.has_space(packet.len()) {

@@ -9,7 +9,8 @@ use std::alloc::{AllocError, Global};
 impl TextLink {
     // No text, and a buffer for `limit` octets of it.
     pub fn new(heap: Global, limit: usize) -> Result<TextLink, AllocError>
-        ensures { IfOk result (λ t. (t.text ≡ []) × (t.limit ≡ limit)) }
+        ensures value { IfOk result (λ t. (t.text ≡ []) × (t.limit ≡ limit)) }
+        ensures reserved { IfOk result (λ t. t.limit ≤ t.storage) }
     {
         let text = Vec::with_capacity(heap, limit)?;
         Ok(TextLink { text, limit })

@@ -15,7 +15,12 @@ impl Link for TextLink {
 
     ghost space = { has_space };
 
-    fn has_space(&self, count: usize) -> bool {
+    fn has_space(&self, count: usize) -> bool
+        ensures value { result ≡ has_space self.now count }
+        ensures within { length self.now.text ≤ self.now.limit }
+        ensures lines { self.now.text ≡ lines (frames_of self.now) }
+        ensures reserved { self.now.limit ≤ self.now.storage }
+    {
         let free = self.limit - self.text.len();
         LINE_OVERHEAD <= free && count <= (free - LINE_OVERHEAD) / 2
     }
@@ -28,6 +33,7 @@ impl Link for TextLink {
         ensures limit { self.new.limit ≡ self.old.limit }
         ensures within { length self.new.text ≤ self.new.limit }
         ensures lines { self.new.text ≡ lines (frames_of self.new) }
+        ensures reserved { self.new.limit ≤ self.new.storage }
         ensures same { has_space self.old (length packet.now) ≡ false → self.new ≡ self.old }
     {
         if !self.has_space(packet.len()) {
